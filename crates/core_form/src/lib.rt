@@ -1,0 +1,15 @@
+//! The core form of a program: its variables, contracts and bodies, and their code as numbered nodes.
+#![tactic(auto)]
+
+mod code;
+mod contract;
+mod nodes;
+mod program;
+mod well_formed;
+
+pub use code::{Actual, CoreExpr, CoreOp, CoreStmt, Place};
+pub use contract::{Contract, DependsPair, GlobalItem, Mode};
+pub use program::{
+    Body, BodyKind, Constituent, Formal, Home, InitialItem, Item, Leaf, Object, Package, ParamMode,
+    Part, PartOf, Program, Sharing, StateDef, States, TaskUnit, Var,
+};
