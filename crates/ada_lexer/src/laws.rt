@@ -1,0 +1,36 @@
+ghost use Rattle.std.specs.Prelude.{◌≡◌, ◌↔◌, ◌⊎◌, ◌*◌, ◌^◌, ℕ, List, Bool, true, length};
+ghost use Rattle.ada_lexer.specs.Classes.{base_of};
+ghost use Rattle.ada_lexer.specs.Laws.{IsBased, IsDecimal, IsLongest, NonePasses, OrderOk};
+ghost use Rattle.ada_lexer.specs.Cut.{lexed, number_value, value_from};
+ghost use Rattle.ada_lexer.specs.Pieces.{longest, number};
+ghost use Rattle.ada_lexer.specs.Words.{reserved_of, spelled};
+ghost use Rattle.ada_lexer.specs.declared.words.Reserved.{Reserved};
+ghost use Rattle.spark_base.specs.declared.numbers.FileNo.{FileNo};
+
+/// What `longest` gives is the longest front that passes, and none only where no front passes.
+pub fn longest_fronts()
+    ensures some { (test : List ℕ → Bool) (bytes : List ℕ) (n : ℕ) → longest test bytes ≡ Some n → IsLongest test bytes n }
+    ensures none { (test : List ℕ → Bool) (bytes : List ℕ) → longest test bytes ≡ None → NonePasses test bytes }
+{}
+
+/// The test of a number passes digits with perhaps an exponent, and a base with its digits, and nothing else.
+pub fn number_parts()
+    ensures { (bytes : List ℕ) → (number bytes ≡ true) ↔ (IsDecimal true bytes ⊎ IsBased 0 true bytes) }
+{}
+
+/// The tokens of a source have bytes, stand in order and do not overlap.
+pub fn tokens_in_order()
+    ensures { (file : FileNo) (source : List ℕ) → OrderOk 0 (length source) (lexed file source) }
+{}
+
+/// The value of a number is that of its digits, times the base to the exponent.
+pub fn number_values()
+    ensures decimal { (bytes : List ℕ) (r : IsDecimal true bytes) → number_value bytes ≡ value_from 10 0 r.digits * 10 ^ value_from 10 0 r.tail }
+    ensures based { (bytes : List ℕ) (r : IsBased 0 true bytes) → number_value bytes
+        ≡ value_from (base_of (value_from 10 0 r.base)) 0 r.is_rest.digits * base_of (value_from 10 0 r.base) ^ value_from 10 0 r.is_rest.tail }
+{}
+
+/// Each reserved word is read as itself.
+pub fn spelled_words()
+    ensures { (word : Reserved) → reserved_of (spelled word) ≡ Some word }
+{}
