@@ -35,26 +35,26 @@ after-after ts us (Ok vs) = ap Ok (sym (append_assoc ts us vs))
 
 -- what stands from a place on begins with a piece
 here_ok : (file : FileNo) (source : List ℕ) (at : ℕ) (ticked : Bool) (xs : List ℕ) (p : Piece) → 0 < length xs → piece_at ticked xs ≡ Ok p → 0 < p.len →
-    cut_from file source at 0 ticked xs ≡ after_tokens (token_of (span file source at p.len) at p.len p.kind) (cut_from file source (at + p.len) 0 (ticks ticked p.kind) (drop p.len xs))
+    cut_from file source at 0 ticked xs ≡ after_tokens (token_of (span file source at (at + p.len)) at p.len p.kind) (cut_from file source (at + p.len) 0 (ticks ticked p.kind) (drop p.len xs))
 here_ok file source at ticked [] p some h k = absurd (omega arith)
 here_ok file source at ticked (x ∷ xs) p some h k =
-    ap (λ r. elim r [ Ok p ↦ after_tokens (token_of (span file source at p.len) at p.len p.kind) (cut_from file source (at + 1) (p.len - 1) (ticks ticked p.kind) xs) | Err f ↦ Err (record { code = f.code; place = place source (at + f.at) }) ]) h
-    ∙ ap (after_tokens (token_of (span file source at p.len) at p.len p.kind)) (past_first file source at p.len (ticks ticked p.kind) x xs k)
+    ap (λ r. elim r [ Ok p ↦ after_tokens (token_of (span file source at (at + p.len)) at p.len p.kind) (cut_from file source (at + 1) (p.len - 1) (ticks ticked p.kind) xs) | Err f ↦ Err (record { code = f.code; place = place source (at + f.at) }) ]) h
+    ∙ ap (after_tokens (token_of (span file source at (at + p.len)) at p.len p.kind)) (past_first file source at p.len (ticks ticked p.kind) x xs k)
 
 here_err : (file : FileNo) (source : List ℕ) (at : ℕ) (ticked : Bool) (xs : List ℕ) (f : Fault) → 0 < length xs → piece_at ticked xs ≡ Err f →
     cut_from file source at 0 ticked xs ≡ Err (record { code = f.code; place = place source (at + f.at) })
 here_err file source at ticked [] f some h = absurd (omega arith)
 here_err file source at ticked (x ∷ xs) f some h =
-    ap (λ r. elim r [ Ok p ↦ after_tokens (token_of (span file source at p.len) at p.len p.kind) (cut_from file source (at + 1) (p.len - 1) (ticks ticked p.kind) xs) | Err f ↦ Err (record { code = f.code; place = place source (at + f.at) }) ]) h
+    ap (λ r. elim r [ Ok p ↦ after_tokens (token_of (span file source at (at + p.len)) at p.len p.kind) (cut_from file source (at + 1) (p.len - 1) (ticks ticked p.kind) xs) | Err f ↦ Err (record { code = f.code; place = place source (at + f.at) }) ]) h
 
 -- one piece further
 pub one_piece : (file : FileNo) (source : List ℕ) (at : ℕ) (ticked : Bool) (ts us : List Token) (p : Piece) (s : Span) (all : Result (List Token) Refusal) → 0 < length (drop at source) → piece_at ticked (drop at source) ≡ Ok p → 0 < p.len →
-    after_tokens ts (cut_from file source at 0 ticked (drop at source)) ≡ all → s ≡ span file source at p.len → us ≡ ts ++ token_of s at p.len p.kind →
+    after_tokens ts (cut_from file source at 0 ticked (drop at source)) ≡ all → s ≡ span file source at (at + p.len) → us ≡ ts ++ token_of s at p.len p.kind →
     after_tokens us (cut_from file source (at + p.len) 0 (ticks ticked p.kind) (drop (at + p.len) source)) ≡ all
 one_piece file source at ticked ts us p s all some h k before e grown =
     ap (λ us. after_tokens us (cut_from file source (at + p.len) 0 (ticks ticked p.kind) (drop (at + p.len) source))) (grown ∙ ap (λ s. ts ++ token_of s at p.len p.kind) e)
-    ∙ ap (λ xs. after_tokens (ts ++ token_of (span file source at p.len) at p.len p.kind) (cut_from file source (at + p.len) 0 (ticks ticked p.kind) xs)) (sym (drop-drop p.len at source))
-    ∙ sym (after-after ts (token_of (span file source at p.len) at p.len p.kind) _)
+    ∙ ap (λ xs. after_tokens (ts ++ token_of (span file source at (at + p.len)) at p.len p.kind) (cut_from file source (at + p.len) 0 (ticks ticked p.kind) xs)) (sym (drop-drop p.len at source))
+    ∙ sym (after-after ts (token_of (span file source at (at + p.len)) at p.len p.kind) _)
     ∙ ap (after_tokens ts) (sym (here_ok file source at ticked (drop at source) p some h k)) ∙ before
 
 pub one_fault : (file : FileNo) (source : List ℕ) (at : ℕ) (ticked : Bool) (ts : List Token) (f : Fault) (all : Result (List Token) Refusal) (q : Pos) → 0 < length (drop at source) → piece_at ticked (drop at source) ≡ Err f →
@@ -75,7 +75,7 @@ place_step source at n p q rest piece e f g h =
     e ∙ ap (moved p) (f ∙ ap (take n) g) ∙ ap (λ p. moved p (take n (drop at source))) h ∙ sym (place_after source at n)
 
 -- the span of a piece, by its two places
-pub spanned : (file : FileNo) (source : List ℕ) (at n : ℕ) (p q : Pos) → p ≡ place source at → q ≡ place source (at + n) → record { file = file; «from» = p; to = q } ≡ span file source at n
+pub spanned : (file : FileNo) (source : List ℕ) (at n : ℕ) (p q : Pos) → p ≡ place source at → q ≡ place source (at + n) → record { file = file; «from» = p; to = q } ≡ span file source at (at + n)
 spanned file source at n p q e f = ap (λ p. record { file = file; «from» = p; to = q }) e ∙ ap (λ q. record { file = file; «from» = place source at; to = q }) f
 
 -- the place behind the last byte

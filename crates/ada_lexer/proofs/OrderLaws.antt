@@ -1,5 +1,5 @@
 -- Tokens stand in order.
-use Rattle.std.proofs.Common.{◌≡◌, ℕ, zero, suc, ◌+◌, ◌-◌, ◌<◌, ◌≤◌, List, [], ◌∷◌, ◌++◌, Bool, true, false, if◌then◌else◌, length, take, drop, None, Some, Ok, Err, Result, refl, sym, subst, ◌∙◌, arith, nat_eq, nat_lt, nat_le, ◌^◌}
+use Rattle.std.proofs.Common.{◌≡◌, ℕ, zero, suc, ◌+◌, ◌-◌, ◌<◌, ◌≤◌, List, [], ◌∷◌, ◌++◌, Bool, true, false, if◌then◌else◌, length, take, drop, None, Some, Ok, Err, Result, IfOk, refl, sym, subst, ◌∙◌, arith, nat_eq, nat_lt, nat_le, ◌^◌}
 use Rattle.std.specs.declared.option.Option.{Option}
 use Rattle.ada_lexer.specs.Pieces.{allowed, longest, space, comment, word, number, text, character, mark_of}
 use Rattle.ada_lexer.specs.Cut.{piece_at, judged, cut_here, cut_from, span, token_of, after_tokens, place, ticks, number_piece, text_piece, text_end, mark_piece, first_high, lexed, starts, fault, piece, word_kind, spoils, number_value}
@@ -8,7 +8,7 @@ use Rattle.spark_base.specs.declared.numbers.FileNo.{FileNo}
 use Rattle.spark_base.specs.declared.numbers.Span.{Span}
 use Rattle.ada_lexer.specs.declared.token.TokenKind.TheVariants as kinds
 use Rattle.ada_lexer.specs.declared.refusal.LexCode.TheVariants.{L01, L02, L03, L04}
-use Rattle.ada_lexer.specs.Laws.{OrderOk}
+use Rattle.ada_lexer.specs.Laws.{InOrder, IsPlaced}
 use Rattle.ada_lexer.specs.declared.token.Token.{Token}
 use Rattle.ada_lexer.specs.declared.token.TokenKind.{TokenKind}
 use Rattle.ada_lexer.specs.declared.token.Mark.{Mark}
@@ -72,41 +72,47 @@ pub piece_len : (ticked : Bool) (bytes : List ℕ) (p : Piece) → piece_at tick
 unfolding piece_at
 piece_len ticked bytes p h = of_longest ticked bytes (longest (allowed ticked) bytes) refl p h
 
-lower : (low low' high : ℕ) (r : Result (List Token) Refusal) → low ≤ low' → OrderOk low' high r → OrderOk low high r
-lower low low' high (Err f) h k = tt
-lower low low' high (Ok []) h k = tt
-lower low low' high (Ok (t ∷ ts)) h k = (let w : low' ≤ t.from = k.0 in omega arith, k.1, k.2, k.3)
+abbrev Ordered : FileNo → List ℕ → ℕ → Result (List Token) Refusal → Type 0
+Ordered file source low r = IfOk r (InOrder file source low)
 
-put : (span : Span) (at high : ℕ) (p : Piece) (r : Result (List Token) Refusal) → 0 < p.len → at + p.len ≤ high → OrderOk (at + p.len) high r → OrderOk at high (after_tokens (token_of span at p.len p.kind) r)
-put span at high p (Err f) h w k = tt
-put span at high p (Ok ts) h w k = kinds p.kind
+lower : (file : FileNo) (source : List ℕ) (low low' : ℕ) (r : Result (List Token) Refusal) → low ≤ low' → Ordered file source low' r → Ordered file source low r
+lower file source low low' (Err f) h k = tt
+lower file source low low' (Ok []) h k = tt
+lower file source low low' (Ok (t ∷ ts)) h k =
+    let w : low' ≤ t.from = k.0.after in
+    (record { after = omega arith; some = k.0.some; within = k.0.within; spanned = k.0.spanned }, k.1)
+
+put : (file : FileNo) (source : List ℕ) (at : ℕ) (p : Piece) (r : Result (List Token) Refusal) → 0 < p.len → at + p.len ≤ length source → Ordered file source (at + p.len) r →
+    Ordered file source at (after_tokens (token_of (span file source at (at + p.len)) at p.len p.kind) r)
+put file source at p (Err f) h w k = tt
+put file source at p (Ok ts) h w k = kinds p.kind
   where
-    kinds : (kind : Option TokenKind) → OrderOk at high (Ok (token_of span at p.len kind ++ ts))
-    kinds None = lower at (at + p.len) high (Ok ts) (omega arith) k
-    kinds (Some kind) = (omega arith, omega arith, w, k)
+    kinds : (kind : Option TokenKind) → Ordered file source at (Ok (token_of (span file source at (at + p.len)) at p.len kind ++ ts))
+    kinds None = lower file source at (at + p.len) (Ok ts) (omega arith) k
+    kinds (Some kind) = (record { after = omega arith; some = omega arith; within = w; spanned = refl }, k)
 
 here : (file : FileNo) (source : List ℕ) (at : ℕ) (ticked : Bool) (x : ℕ) (xs : List ℕ) (r : Result Piece Fault) → at + length (x ∷ xs) ≡ length source → piece_at ticked (x ∷ xs) ≡ r →
-    ((n : ℕ) (t : Bool) → n ≤ length xs → OrderOk (at + 1 + n) (length source) (cut_from file source (at + 1) n t xs)) →
-    OrderOk at (length source) (elim r [ Ok p ↦ after_tokens (token_of (span file source at p.len) at p.len p.kind) (cut_from file source (at + 1) (p.len - 1) (ticks ticked p.kind) xs) | Err f ↦ Err (record { code = f.code; place = place source (at + f.at) }) ])
+    ((n : ℕ) (t : Bool) → n ≤ length xs → Ordered file source (at + 1 + n) (cut_from file source (at + 1) n t xs)) →
+    Ordered file source at (elim r [ Ok p ↦ after_tokens (token_of (span file source at (at + p.len)) at p.len p.kind) (cut_from file source (at + 1) (p.len - 1) (ticks ticked p.kind) xs) | Err f ↦ Err (record { code = f.code; place = place source (at + f.at) }) ])
 here file source at ticked x xs (Err f) e h i = tt
 here file source at ticked x xs (Ok p) e h i =
     let w : (0 < p.len) × (p.len ≤ length (x ∷ xs)) = piece_len ticked (x ∷ xs) p h in
     let q : at + 1 + (p.len - 1) ≡ at + p.len = omega arith in
-    put (span file source at p.len) at (length source) p _ w.0 (omega arith) (subst (λ (low : ℕ). OrderOk low (length source) (cut_from file source (at + 1) (p.len - 1) (ticks ticked p.kind) xs)) q (i (p.len - 1) (ticks ticked p.kind) (omega arith)))
+    put file source at p _ w.0 (omega arith) (subst (λ (low : ℕ). Ordered file source low (cut_from file source (at + 1) (p.len - 1) (ticks ticked p.kind) xs)) q (i (p.len - 1) (ticks ticked p.kind) (omega arith)))
 
-in_order : (file : FileNo) (source : List ℕ) (at left : ℕ) (ticked : Bool) (xs : List ℕ) → at + length xs ≡ length source → left ≤ length xs → OrderOk (at + left) (length source) (cut_from file source at left ticked xs)
+in_order : (file : FileNo) (source : List ℕ) (at left : ℕ) (ticked : Bool) (xs : List ℕ) → at + length xs ≡ length source → left ≤ length xs → Ordered file source (at + left) (cut_from file source at left ticked xs)
 in_order file source at zero ticked [] e h = tt
 in_order file source at (suc left) ticked [] e h = absurd (omega arith)
 in_order file source at (suc left) ticked (x ∷ xs) e h = let q : at + 1 + left ≡ at + suc left = omega arith in
-    subst (λ (low : ℕ). OrderOk low (length source) (cut_from file source (at + 1) left ticked xs)) q (in_order file source (at + 1) left ticked xs (omega arith) (omega arith))
+    subst (λ (low : ℕ). Ordered file source low (cut_from file source (at + 1) left ticked xs)) q (in_order file source (at + 1) left ticked xs (omega arith) (omega arith))
 in_order file source at zero ticked (x ∷ xs) e h = let q : at ≡ at + 0 = omega arith in
-    subst (λ (low : ℕ). OrderOk low (length source) (cut_from file source at 0 ticked (x ∷ xs))) q
+    subst (λ (low : ℕ). Ordered file source low (cut_from file source at 0 ticked (x ∷ xs))) q
     (here file source at ticked x xs (piece_at ticked (x ∷ xs)) e refl (λ n t k. in_order file source (at + 1) n t xs (omega arith) k))
 
-from_lexed : (file : FileNo) (source : List ℕ) (c : Bool) (r : Refusal) → OrderOk 0 (length source) (if c then Err r else cut_from file source 0 0 false source)
+from_lexed : (file : FileNo) (source : List ℕ) (c : Bool) (r : Refusal) → Ordered file source 0 (if c then Err r else cut_from file source 0 0 false source)
 from_lexed file source true r = tt
-from_lexed file source false r = let q : 0 + 0 ≡ 0 = refl in in_order file source 0 0 false source (omega arith) (omega arith)
+from_lexed file source false r = in_order file source 0 0 false source (omega arith) (omega arith)
 
-pub tokens_in_order : (file : FileNo) (source : List ℕ) → OrderOk 0 (length source) (lexed file source)
+pub tokens_in_order : (file : FileNo) (source : List ℕ) → IfOk (lexed file source) (InOrder file source 0)
 unfolding lexed
 tokens_in_order file source = from_lexed file source _ _

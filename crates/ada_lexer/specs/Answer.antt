@@ -12,7 +12,7 @@ abbrev pub Fails : LexFault → Result (List Token) Refusal → Type 0
 Fails (Refused f) r = r ≡ Err f
 Fails NoMemory r = Unit {0}
 
--- a piece of at least one byte, or a fault at one
+-- a piece has a byte at least and these at most, and a fault stands at one of them
 abbrev pub IsWithin : Result Piece Fault → ℕ → Type 0
 IsWithin (Ok p) n = (0 < p.len) × (p.len ≤ n)
 IsWithin (Err f) n = f.at < n

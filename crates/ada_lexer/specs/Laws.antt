@@ -1,10 +1,10 @@
--- What the longest front is.
+-- What the laws say of fronts, numbers and tokens.
 use Rattle.ada_lexer.specs.declared.token.Token.{Token}
-use Rattle.ada_lexer.specs.declared.refusal.Refusal.{Refusal}
-use Rattle.std.specs.Prelude.{Result, Ok, Err, [], ◌≡◌, ℕ, ◌<◌, ◌≤◌, List, ◌++◌, ◌∷◌, Bool, true, false, length, take}
+use Rattle.spark_base.specs.declared.numbers.FileNo.{FileNo}
+use Rattle.std.specs.Prelude.{[], ◌≡◌, ℕ, ◌<◌, ◌≤◌, List, ◌++◌, ◌∷◌, Bool, true, false, length, take}
 use Rattle.ada_lexer.specs.Classes.{base_of}
 use Rattle.ada_lexer.specs.Pieces.{parted, scale}
-use Rattle.ada_lexer.specs.Cut.{value_from}
+use Rattle.ada_lexer.specs.Cut.{value_from, span}
 
 -- the front of n bytes passes, and no longer one does
 pub record IsLongest (test : List ℕ → Bool) (bytes : List ℕ) (n : ℕ) : Type 0 where
@@ -40,11 +40,14 @@ pub record IsBased (n : ℕ) (due : Bool) (bytes : List ℕ) : Type 0 where
   pub are_digits : parted 10 due base ≡ true
   pub is_rest : IsRest (base_of (value_from 10 n base)) true rest
 
--- each token has a byte, stands after the one before, and ends within the source
-abbrev pub InOrder : ℕ → ℕ → List Token → Type 0
-InOrder low high [] = Unit {0}
-InOrder low high (t ∷ ts) = (low ≤ t.from) × (t.from < t.to) × (t.to ≤ high) × InOrder t.to high ts
+-- a token has a byte, begins at `low` or later and ends within the source, and its span is that of its bytes
+pub record IsPlaced (file : FileNo) (source : List ℕ) (low : ℕ) (t : Token) : Type 0 where
+  pub after : low ≤ t.from
+  pub some : t.from < t.to
+  pub within : t.to ≤ length source
+  pub spanned : t.span ≡ span file source t.from t.to
 
-abbrev pub OrderOk : ℕ → ℕ → Result (List Token) Refusal → Type 0
-OrderOk low high (Ok ts) = InOrder low high ts
-OrderOk low high (Err f) = Unit {0}
+-- tokens one behind the other
+abbrev pub InOrder : FileNo → List ℕ → ℕ → List Token → Type 0
+InOrder file source low [] = Unit {0}
+InOrder file source low (t ∷ ts) = IsPlaced file source low t × InOrder file source t.to ts

@@ -1,4 +1,4 @@
--- How far the code reads: lengths by one pass over a list.
+-- How far the code reads: lengths by one pass over a list. No part of what a source's tokens are: contracts of private functions and invariants speak of these.
 use Rattle.std.specs.Prelude.{ℕ, suc, ◌+◌, ◌*◌, ◌^◌, nat_le, Bool, true, false, if◌then◌else◌, nat_eq, nat_lt, ◌&&◌, List, [], ◌∷◌, Option, Some, None, Result, take}
 use Rattle.ada_lexer.specs.Classes.{digit_of, is_digit, is_e, base_of, is_inner, is_printable}
 use Rattle.ada_lexer.specs.Pieces.{single, double}

@@ -1,6 +1,6 @@
-ghost use Rattle.std.specs.Prelude.{◌≡◌, ◌↔◌, ◌⊎◌, ◌*◌, ◌^◌, ℕ, List, Bool, true, length};
+ghost use Rattle.std.specs.Prelude.{◌≡◌, ◌↔◌, ◌⊎◌, ◌*◌, ◌^◌, ℕ, List, Bool, true, IfOk};
 ghost use Rattle.ada_lexer.specs.Classes.{base_of};
-ghost use Rattle.ada_lexer.specs.Laws.{IsBased, IsDecimal, IsLongest, NonePasses, OrderOk};
+ghost use Rattle.ada_lexer.specs.Laws.{IsBased, IsDecimal, IsLongest, NonePasses, InOrder};
 ghost use Rattle.ada_lexer.specs.Cut.{lexed, number_value, value_from};
 ghost use Rattle.ada_lexer.specs.Pieces.{longest, number};
 ghost use Rattle.ada_lexer.specs.Words.{reserved_of, spelled};
@@ -18,9 +18,10 @@ pub fn number_parts()
     ensures { (bytes : List ℕ) → (number bytes ≡ true) ↔ (IsDecimal true bytes ⊎ IsBased 0 true bytes) }
 {}
 
-/// The tokens of a source have bytes, stand in order and do not overlap.
+/// The tokens of a source have bytes, stand in order within it and do not overlap, and the span of
+/// each is that of its bytes.
 pub fn tokens_in_order()
-    ensures { (file : FileNo) (source : List ℕ) → OrderOk 0 (length source) (lexed file source) }
+    ensures { (file : FileNo) (source : List ℕ) → IfOk (lexed file source) (InOrder file source 0) }
 {}
 
 /// The value of a number is that of its digits, times the base to the exponent.

@@ -13,6 +13,8 @@ mod piece;
 mod pieces;
 mod refusal;
 mod scan;
+#[cfg(test)]
+mod tests;
 mod token;
 mod words;
 
