@@ -5,10 +5,9 @@ use Rattle.ada_lexer.specs.Pieces.{allowed, longest, space, comment, word, numbe
 use Rattle.ada_lexer.specs.Cut.{piece_at, judged, cut_here, cut_from, span, token_of, after_tokens, place, ticks, number_piece, text_piece, text_end, mark_piece, first_high, lexed, starts, fault, piece, word_kind, spoils, number_value}
 use Rattle.ada_lexer.specs.Words.{reserved_of}
 use Rattle.spark_base.specs.declared.numbers.FileNo.{FileNo}
-use Rattle.spark_base.specs.declared.numbers.Span.{Span}
 use Rattle.ada_lexer.specs.declared.token.TokenKind.TheVariants as kinds
 use Rattle.ada_lexer.specs.declared.refusal.LexCode.TheVariants.{L01, L02, L03, L04}
-use Rattle.ada_lexer.specs.Laws.{InOrder, IsPlaced}
+use Rattle.ada_lexer.specs.Laws.{InOrder}
 use Rattle.ada_lexer.specs.declared.token.Token.{Token}
 use Rattle.ada_lexer.specs.declared.token.TokenKind.{TokenKind}
 use Rattle.ada_lexer.specs.declared.token.Mark.{Mark}

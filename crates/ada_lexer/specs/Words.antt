@@ -91,9 +91,11 @@ agrees (b ∷ bs) (k ∷ ks) = nat_eq (to_ascii_lowercase b) k && agrees bs ks
 abbrev pub is_written : List ℕ → List ℕ → Bool
 is_written word key = nat_eq (length word) (length key) && agrees word key
 
+-- the first in a list that a word is
 abbrev pub first_written : List ℕ → List Reserved → Option Reserved
 first_written word [] = None
 first_written word (r ∷ rs) = if is_written word (spelled r) then Some r else first_written word rs
 
+-- the reserved word that a word is, in whatever case
 unfoldable pub reserved_of : List ℕ → Option Reserved
 reserved_of word = first_written word RESERVED_WORDS

@@ -8,6 +8,7 @@ use crate::piece::{Fault, Piece};
 use crate::refusal::LexCode;
 use crate::token::{Mark, TokenKind};
 
+/// The mark of one byte.
 #[tactic(auto, unfolding(crate::specs::Pieces::single))]
 fn single(b: u8) -> Option<Mark>
     ensures { result ≡ pieces.single b }
@@ -33,6 +34,7 @@ fn single(b: u8) -> Option<Mark>
     }
 }
 
+/// The mark of two bytes.
 #[tactic(auto, unfolding(crate::specs::Pieces::double))]
 fn double(a: u8, b: u8) -> Option<Mark>
     ensures { result ≡ pieces.double a b }
@@ -62,6 +64,7 @@ fn double(a: u8, b: u8) -> Option<Mark>
     }
 }
 
+/// A mark of one byte, or what is wrong with that byte.
 fn one_mark(b: u8) -> Result<Piece, Fault>
     ensures piece { result ≡ runs.one_mark b (pieces.single b) }
     ensures within { IsWithin result 1 }
@@ -78,6 +81,7 @@ fn one_mark(b: u8) -> Result<Piece, Fault>
     }
 }
 
+/// A mark of two bytes, or else of their first.
 fn two_marks(b: u8, c: u8) -> Result<Piece, Fault>
     ensures piece { result ≡ runs.two_marks b (pieces.double b c) }
     ensures within { IsWithin result 2 }
@@ -91,14 +95,15 @@ fn two_marks(b: u8, c: u8) -> Result<Piece, Fault>
     }
 }
 
+/// Whether three bytes are a character, where a tick is no mark.
 fn is_ticked(ticked: bool, b: u8, c: u8, d: u8) -> bool
     ensures { result ≡ runs.ticked_byte ticked b c d }
 {
     !ticked && b == b'\'' && is_printable(c) && d == b'\''
 }
 
-#[tactic(auto, using(crate::proofs::Here::other_long, crate::proofs::Here::other_two, crate::proofs::Here::other_one))]
 /// A mark or a character at the front, or what is wrong with the first byte.
+#[tactic(auto, using(crate::proofs::Here::other_long, crate::proofs::Here::other_two, crate::proofs::Here::other_one))]
 pub fn other_piece(ticked: bool, bytes: &[u8]) -> Result<Piece, Fault>
     requires { 0 < length bytes.now }
     ensures piece { result ≡ runs.other ticked bytes.now }

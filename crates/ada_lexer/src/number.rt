@@ -38,6 +38,7 @@ fn value_in(base: u8, bytes: &[u8]) -> Option<u128>
     Some(value)
 }
 
+/// The base that these digits are, or 0 where they are none of 2 to 16.
 #[tactic(auto, unfolding(crate::specs::Classes::base_of))]
 fn base_of(bytes: &[u8]) -> u8
     ensures base { result ≡ classes.base_of (cut.value_from 10 0 bytes.now) }
@@ -49,6 +50,7 @@ fn base_of(bytes: &[u8]) -> u8
     }
 }
 
+/// How many bytes stand before the first #.
 fn before_hash(bytes: &[u8]) -> usize
     ensures before { result ≡ cut.before cut.is_hash bytes.now }
     ensures within { result ≤ length bytes.now }
@@ -61,6 +63,7 @@ fn before_hash(bytes: &[u8]) -> usize
     bytes.len()
 }
 
+/// How many bytes stand before the first E.
 fn before_e(bytes: &[u8]) -> usize
     ensures before { result ≡ cut.before classes.is_e bytes.now }
     ensures within { result ≤ length bytes.now }
@@ -73,6 +76,7 @@ fn before_e(bytes: &[u8]) -> usize
     bytes.len()
 }
 
+/// Whether there are only decimal digits and underscores.
 fn is_digits_alone(bytes: &[u8]) -> bool
     ensures { result ≡ pieces.every classes.is_plain bytes.now }
 {
@@ -84,6 +88,7 @@ fn is_digits_alone(bytes: &[u8]) -> bool
     true
 }
 
+/// How many bytes at the front are digits with single underscores between them.
 fn due_len(base: u8, bytes: &[u8]) -> Option<usize>
     ensures len { result ≡ runs.due_len base bytes.now }
     ensures within { IfSome result (λ n. n ≤ length bytes.now) }
@@ -95,6 +100,7 @@ fn due_len(base: u8, bytes: &[u8]) -> Option<usize>
     }
 }
 
+/// After its letter, the length of an exponent at the front.
 fn exponent_len(bytes: &[u8]) -> Option<usize>
     ensures len { result ≡ runs.exponent_len bytes.now }
     ensures within { IfSome result (λ n. n ≤ length bytes.now) }
@@ -110,6 +116,7 @@ fn exponent_len(bytes: &[u8]) -> Option<usize>
     }
 }
 
+/// The length of an exponent at the front, or 0.
 fn scale_len(bytes: &[u8]) -> usize
     ensures len { result ≡ runs.scale_len bytes.now }
     ensures within { result ≤ length bytes.now }
@@ -145,6 +152,7 @@ fn based_len(base: u8, bytes: &[u8]) -> Option<usize>
     None
 }
 
+/// The length of what follows the first digits of a number.
 fn tail_len(base: u8, bytes: &[u8]) -> usize
     ensures len { result ≡ runs.tail_len base bytes.now }
     ensures within { result ≤ length bytes.now }
@@ -180,6 +188,7 @@ pub fn number_piece(bytes: &[u8]) -> Result<Piece, Fault>
     judged(n, number, rest)
 }
 
+/// A number of so many bytes, by its value and by what stands behind it.
 fn judged(len: usize, number: &[u8], rest: &[u8]) -> Result<Piece, Fault>
     requires len { 0 < len }
     requires number { 0 < length number.now }
@@ -204,6 +213,7 @@ fn judged(len: usize, number: &[u8], rest: &[u8]) -> Result<Piece, Fault>
     }
 }
 
+/// The value of a number, if 128 bits hold it.
 #[tactic(auto, unfolding(crate::specs::Cut::number_value))]
 fn number_value(bytes: &[u8]) -> Option<u128>
     ensures { result ≡ runs.fits (cut.number_value bytes.now) }
@@ -217,6 +227,7 @@ fn number_value(bytes: &[u8]) -> Option<u128>
     }
 }
 
+/// The value of a number by its base and what follows the first #, if 128 bits hold it.
 fn based_value(base: &[u8], rest: &[u8]) -> Option<u128>
     ensures { result ≡ runs.fits (cut.based_value base.now rest.now) }
 {
@@ -242,6 +253,7 @@ fn scaled(base: u8, digits: &[u8], exponent: &[u8]) -> Option<u128>
     }
 }
 
+/// A value times a power, if 128 bits hold it.
 fn times_power(value: u128, base: u8, times: u128) -> Option<u128>
     requires value { 0 < value }
     requires base { 2 ≤ base }
@@ -259,6 +271,7 @@ fn times_power(value: u128, base: u8, times: u128) -> Option<u128>
     Some(all)
 }
 
+/// Whether what stands behind a number makes it malformed.
 fn spoils(number: &[u8], rest: &[u8]) -> bool
     requires { 0 < length number.now }
     ensures { result ≡ cut.spoils number.now rest.now }

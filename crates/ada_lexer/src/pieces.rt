@@ -15,6 +15,7 @@ use crate::scan::{after, first_high, front, inner_run, parted_len, text_end, whi
 use crate::token::TokenKind;
 use crate::words::reserved_of;
 
+/// White space at the front.
 #[tactic(auto, using(crate::proofs::Here::space_here))]
 fn space_piece(bytes: &[u8]) -> Result<Piece, Fault>
     requires some { 0 < length bytes.now }
@@ -28,6 +29,7 @@ fn space_piece(bytes: &[u8]) -> Result<Piece, Fault>
     })
 }
 
+/// A comment at the front.
 #[tactic(auto, using(crate::proofs::Here::comment_here))]
 fn comment_piece(bytes: &[u8]) -> Result<Piece, Fault>
     requires some { 1 < length bytes.now }
@@ -42,6 +44,7 @@ fn comment_piece(bytes: &[u8]) -> Result<Piece, Fault>
     })
 }
 
+/// A word at the front.
 #[tactic(auto, using(crate::proofs::Here::word_here))]
 fn word_piece(bytes: &[u8]) -> Result<Piece, Fault>
     requires some { 0 < length bytes.now }
@@ -57,6 +60,7 @@ fn word_piece(bytes: &[u8]) -> Result<Piece, Fault>
     })
 }
 
+/// Whether a word is reserved.
 fn word_kind(word: &[u8]) -> TokenKind
     ensures { result ≡ cut.word_kind (reserved_of word.now) }
 {
@@ -66,6 +70,7 @@ fn word_kind(word: &[u8]) -> TokenKind
     }
 }
 
+/// A text at the front.
 fn text_piece(bytes: &[u8]) -> Result<Piece, Fault>
     requires some { 0 < length bytes.now }
     requires quote { slice_index bytes.now 0 ≡ 34 }
@@ -90,6 +95,7 @@ fn text_piece(bytes: &[u8]) -> Result<Piece, Fault>
     }
 }
 
+/// Whether two hyphens stand at the front.
 fn is_comment(bytes: &[u8]) -> bool
     requires { 0 < length bytes.now }
     ensures yes { result ≡ true → (1 < length bytes.now) × (slice_index bytes.now 0 ≡ 45) × (slice_index bytes.now 1 ≡ 45) }
@@ -98,7 +104,7 @@ fn is_comment(bytes: &[u8]) -> bool
     bytes.len() > 1 && bytes[0] == b'-' && bytes[1] == b'-'
 }
 
-/// The piece at the front.
+/// The piece at the front, or what is wrong there; `ticked`: a tick is a mark here.
 pub fn piece_at(ticked: bool, bytes: &[u8]) -> Result<Piece, Fault>
     requires { 0 < length bytes.now }
     ensures piece { result ≡ cut.piece_at ticked bytes.now }

@@ -43,6 +43,7 @@ pub fn parted_len(base: u8, bytes: &[u8]) -> usize
     i
 }
 
+/// Whether the first byte is a digit of the base.
 pub fn starts_digit(base: u8, bytes: &[u8]) -> bool
     ensures { result ≡ runs.starts_digit base bytes.now }
 {
@@ -52,6 +53,7 @@ pub fn starts_digit(base: u8, bytes: &[u8]) -> bool
     }
 }
 
+/// Whether digits that came before go on at a place.
 fn continues(base: u8, bytes: &[u8], i: usize) -> bool
     requires { i < length bytes.now }
     ensures { result ≡ runs.goes_on base (slice_index bytes.now i) (drop (i + 1) bytes.now) }
@@ -82,7 +84,7 @@ pub fn text_end(bytes: &[u8]) -> Option<usize>
     if ended { Some(bytes.len()) } else { None }
 }
 
-/// The first byte above 127.
+/// The place of the first byte above 127.
 pub fn first_high(bytes: &[u8]) -> Option<usize>
     ensures first { result ≡ cut.first_high bytes.now }
     ensures within { IfSome result (λ n. n < length bytes.now) }

@@ -1,7 +1,7 @@
 ghost use Rattle.std.specs.Prelude.{◌≡◌, length};
 ghost use Rattle.ada_lexer.specs.Words as words;
 
-/// A reserved word.
+/// A reserved word of Ada 2012.
 #[derive(Clone, Copy, Debug, PartialEq, Eq)]
 pub enum Reserved {
     Abort,
@@ -156,7 +156,7 @@ pub const RESERVED_WORDS: [Reserved; 73] = [
     Reserved::Xor,
 ];
 
-/// How a reserved word is written.
+/// How a reserved word is written, in lower case.
 pub fn spelled(word: Reserved) -> &'static [u8]
     ensures { result.now ≡ words.spelled word }
 {
@@ -244,6 +244,7 @@ fn is_written(word: &[u8], key: &[u8]) -> bool
     word.len() == key.len() && agrees(word, key)
 }
 
+/// Whether bytes of the same number are the same, but for their case.
 fn agrees(word: &[u8], key: &[u8]) -> bool
     requires { length word.now ≡ length key.now }
     ensures { result ≡ words.agrees word.now key.now }
@@ -256,6 +257,7 @@ fn agrees(word: &[u8], key: &[u8]) -> bool
     true
 }
 
+/// The first in a list that this word is.
 fn first_written(word: &[u8], list: &[Reserved]) -> Option<Reserved>
     ensures { result ≡ words.first_written word.now list.now }
 {
@@ -267,7 +269,7 @@ fn first_written(word: &[u8], list: &[Reserved]) -> Option<Reserved>
     None
 }
 
-/// The reserved word that this is, if it is one.
+/// The reserved word that this is, in whatever case, if it is one.
 #[tactic(auto, unfolding(crate::specs::Words::reserved_of))]
 pub fn reserved_of(word: &[u8]) -> Option<Reserved>
     ensures { result ≡ words.reserved_of word.now }
