@@ -28,13 +28,7 @@ code_text code.G02 = codes "G02"
 code_text code.U01 = codes "U01"
 code_text code.X01 = codes "X01"
 
--- the codes stand in the order of their texts
-abbrev pub code_number : Code → ℕ
-code_number code.G01 = 0
-code_number code.G02 = 1
-code_number code.U01 = 2
-code_number code.X01 = 3
-
+-- the kinds in the order of their messages
 abbrev pub kind_number : Kind → ℕ
 kind_number kinds.Error = 0
 kind_number kinds.Warning = 1
@@ -45,6 +39,6 @@ abbrev pub order : Message → Message → Ordering
 order =
     then_cmp (on (λ m. m.file.0) nat_cmp)
     (then_cmp (then_cmp (on (λ m. m.place.line) nat_cmp) (on (λ m. m.place.col) nat_cmp))
-    (then_cmp (on (λ m. code_number m.code) nat_cmp)
+    (then_cmp (on (λ m. code_text m.code) (slice_cmp nat_cmp))
     (then_cmp (on (λ m. m.text) (slice_cmp nat_cmp))
     (on (λ m. kind_number m.kind) nat_cmp))))

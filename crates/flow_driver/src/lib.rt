@@ -1,6 +1,7 @@
 //! The top call: from the words and the files to the printed report and the status.
 #![tactic(auto)]
 
+mod code_order;
 mod driver;
 pub mod message_texts;
 pub mod messages;

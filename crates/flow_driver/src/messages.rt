@@ -39,8 +39,8 @@ impl Kind {
     }
 }
 
-/// Which rule a message is about. The codes stand in the order of their texts.
-#[derive(Clone, Copy, Debug, PartialEq, Eq, PartialOrd, Ord)]
+/// Which rule a message is about. Codes are compared by their texts.
+#[derive(Clone, Copy, Debug)]
 pub enum Code {
     /// A body reads or writes what its Global does not list so.
     G01,
