@@ -1,5 +1,5 @@
 -- The derived comparisons of messages.
-use Rattle.std.proofs.Common.{rules, arith, ◌≡◌, Bool, true, false, refl, ap, subst, ◌∙◌, sym, List, [], ◌∷◌, ℕ, nat_eq, ◌&&◌, codes, if◌then◌else◌}
+use Rattle.std.proofs.Common.{◌≡◌, Bool, true, false, refl, ap, subst, ◌∙◌, sym, List, [], ◌∷◌, ℕ, nat_eq, ◌&&◌, codes, if◌then◌else◌}
 use Rattle.std.proofs.lemmas.Bool.{eqb-true}
 use Rattle.std.specs.Str.{bytes_eq}
 use Rattle.std.specs.Cmp.Lexicographic.{pointwise}
@@ -17,6 +17,11 @@ use Rattle.flow_driver.specs.contracts.messages.KindPartialEq.TheImpl as kind_eq
 use Rattle.flow_driver.specs.contracts.messages.MessageOrd.TheImpl as ord
 use Rattle.flow_driver.specs.contracts.messages.KindOrd.TheImpl as kind
 use Rattle.flow_driver.specs.contracts.messages.MessagePartialEq.TheImpl as eq
+use Rattle.flow_driver.specs.contracts.messages.MessageOrd.TheImpl.Laws as laws
+use Rattle.flow_driver.proofs.SameList.{same_list}
+use Rattle.std.specs.Cmp.{IsTotalOrder}
+use Rattle.std.specs.List.{Contains}
+use Rattle.std.proofs.Common.{◌↔◌}
 
 abbrev pub cmp : Message → Message → Ordering
 cmp = (ord.ghosts).cmp
@@ -104,3 +109,10 @@ same-decides m n h =
     let text : m.text ≡ n.text = same_bytes m.text n.text parts.4 in
     let kind : m.kind ≡ n.kind = kind_eq m.kind n.kind parts.5 in
     rw (file, line, col, which, text, kind) refl
+
+order_total : IsTotalOrder order
+order_total = subst (λ (R : Message → Message → Ordering). IsTotalOrder R) (fun_ext (λ m. fun_ext (λ n. cmp-is m n))) laws.total-law
+
+-- two lists of messages that rise strictly and have the same messages are one list
+pub ordered-unique : (xs ys : List Message) → IsStrictlySortedBy order xs → IsStrictlySortedBy order ys → ((m : Message) → Contains xs m ↔ Contains ys m) → xs ≡ ys
+ordered-unique xs ys left right same = same_list order_total xs ys left right same

@@ -1,5 +1,5 @@
 -- A line is put piece by piece, as far as it goes.
-use Rattle.std.proofs.Common.{◌≡◌, ℕ, zero, suc, ◌+◌, ◌<◌, ◌≤◌, List, [], ◌∷◌, ◌++◌, length, take, get_or, map, slice_get, unwrap_or, true, false, Bool, None, Some, Ok, Err, IfErr, refl, ap, sym, subst, ◌∙◌, arith, is_err}
+use Rattle.std.proofs.Common.{◌≡◌, ℕ, zero, suc, ◌+◌, ◌<◌, ◌≤◌, List, [], ◌∷◌, ◌++◌, length, take, get_or, map, slice_get, unwrap_or, true, false, Ok, Err, IfErr, ap, sym, subst, arith, is_err}
 use Rattle.std.proofs.Math.Seq.{take-length, take-append-add}
 use Rattle.std.proofs.lemmas.List.{take-append-le}
 use Rattle.std.specs.declared.option.Option.{Option}
@@ -9,7 +9,7 @@ use Rattle.source_io.specs.Sink.{printed, IsCutShort, PrintCountsFault, PrintCou
 use Rattle.source_io.specs.declared.print.PrintFault.{PrintFault}
 use Rattle.source_io.specs.declared.print.PrintFault.TheVariants.{Failed, NoMemory}
 use Rattle.source_io.proofs.CountsLemmas.{Grew-trans}
-use Rattle.flow_driver.specs.Run.{Complains, GrewByPart}
+use Rattle.flow_driver.specs.Run.{Complains}
 
 -- the line ends here
 pub says : {A S : Type 0} (held : S → Option (List ℕ)) (faults wants : S → ℕ) (r : Result A PrintFault) (line : List ℕ) (a b : S) → Grew (held a) (printed r line) (held b) → PrintCountsFault (faults a) (faults b) r → PrintCountsWant (wants a) (wants b) r → Complains held faults wants line a b
