@@ -1,4 +1,5 @@
 ghost use Rattle.std.specs.Prelude.{◌≡◌, ◌⊎◌, ◌≤◌, ◌↔◌, ℕ, true, false, map, string_bytes, codes};
+ghost use Rattle.source_io.specs.Clean.{files_told, bytes_held};
 ghost use Rattle.source_io.specs.Counts.{Rose};
 ghost use Rattle.flow_driver.specs.Run.{is_name, are_accepted, IsCountedBy, IsPrinted, IsPartlyPrinted, GrewByPart, Complains, unread_line};
 ghost use Rattle.flow_driver.specs.Text.{name_at};
@@ -110,7 +111,7 @@ pub fn run_words<F: Files, K: Sink, E: Sink, G: Turnstile>(
     }
 }
 
-/// The same over objects that never fail: then the status is neither 4 nor 5.
+/// The same over objects that never fail: then the status is neither 4 nor 5, and the report is that of the files told.
 pub fn run_clean<E: Sink, G: Turnstile>(
     alloc: Global,
     words: &[String],
@@ -119,7 +120,9 @@ pub fn run_clean<E: Sink, G: Turnstile>(
     err: &mut E,
     gate: &G,
 ) -> u8
-    ensures { (result ≤ 3) ⊎ (result ≡ 6) }
+    ensures range { (result ≤ 3) ⊎ (result ≡ 6) }
+    ensures words { (result ≡ 3) ↔ (are_accepted (map string_bytes words.now) ≡ false) }
+    ensures printed { result ≤ 2 → IsPrinted files_told (λ _. true) bytes_held (map string_bytes words.now) result files.old out.old out.new }
 {
     run_words(alloc, words, files, out, err, gate)
 }
