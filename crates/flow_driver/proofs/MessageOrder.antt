@@ -12,7 +12,7 @@ use Rattle.std.specs.declared.cmp.Ordering.{Ordering}
 use Rattle.flow_driver.specs.declared.messages.Message.{Message}
 use Rattle.flow_driver.specs.declared.messages.Kind.{Kind}
 use Rattle.flow_driver.specs.declared.messages.Kind.TheVariants.{Error, Warning, Refused}
-use Rattle.flow_driver.specs.Message.{order, kind_number, code_text}
+use Rattle.flow_driver.specs.Message.{order, kind_number, code_text, HaveSame}
 use Rattle.flow_driver.specs.contracts.messages.KindPartialEq.TheImpl as kind_eq_ghosts
 use Rattle.flow_driver.specs.contracts.messages.MessageOrd.TheImpl as ord
 use Rattle.flow_driver.specs.contracts.messages.KindOrd.TheImpl as kind
@@ -20,8 +20,12 @@ use Rattle.flow_driver.specs.contracts.messages.MessagePartialEq.TheImpl as eq
 use Rattle.flow_driver.specs.contracts.messages.MessageOrd.TheImpl.Laws as laws
 use Rattle.flow_driver.proofs.SameList.{same_list}
 use Rattle.std.specs.Cmp.{IsTotalOrder}
-use Rattle.std.specs.List.{Contains}
-use Rattle.std.proofs.Common.{◌↔◌}
+use Rattle.flow_driver.specs.contracts.messages.MessageEq.TheImpl.Laws as eq_laws
+use Rattle.std.proofs.lemmas.List.Filters.{dedup_is}
+use Rattle.std.proofs.lemmas.List.Kept.{Contains-dedup, Contains-from_dedup, IsStrictlySortedBy-dedup}
+use Rattle.std.proofs.lemmas.List.Sorted.{Contains-permutation, IsPermutation-sym}
+use Rattle.std.specs.List.Sorted.{IsSorted, IsPermutation}
+use Rattle.std.specs.List.Retain.{IsFiltered, DiffersFromLast}
 
 abbrev pub cmp : Message → Message → Ordering
 cmp = (ord.ghosts).cmp
@@ -114,5 +118,20 @@ order_total : IsTotalOrder order
 order_total = subst (λ (R : Message → Message → Ordering). IsTotalOrder R) (fun_ext (λ m. fun_ext (λ n. cmp-is m n))) laws.total-law
 
 -- two lists of messages that rise strictly and have the same messages are one list
-pub ordered-unique : (xs ys : List Message) → IsStrictlySortedBy order xs → IsStrictlySortedBy order ys → ((m : Message) → Contains xs m ↔ Contains ys m) → xs ≡ ys
-ordered-unique xs ys left right same = same_list order_total xs ys left right same
+pub ordered-unique : (xs ys : List Message) → IsStrictlySortedBy order xs → IsStrictlySortedBy order ys → HaveSame xs ys → xs ≡ ys
+ordered-unique xs ys left right same = same_list order_total xs ys left right same.same
+
+-- what sorting and then dropping equal neighbours leaves
+pub rises : (given sorted kept : List Message) → IsPermutation given sorted → IsSorted cmp sorted → IsFiltered (DiffersFromLast same) [] sorted kept → IsStrictlySortedBy order kept
+rises given sorted kept moved up filtered =
+    rw (dedup_is same sorted kept filtered) (in_order _ (IsStrictlySortedBy-dedup laws.total-law laws.matches_eq-law sorted up))
+
+pub keeps : (given sorted kept : List Message) → IsPermutation given sorted → IsFiltered (DiffersFromLast same) [] sorted kept → HaveSame kept given
+keeps given sorted kept moved filtered =
+    let is = dedup_is same sorted kept filtered in
+    record {
+      same = λ m. (
+        λ h. Contains-permutation _ _ m (IsPermutation-sym _ _ moved) (Contains-from_dedup _ _ m (rw is at h)),
+        λ h. rw is (Contains-dedup eq_laws.laws-law same-decides _ m (Contains-permutation _ _ m moved h)),
+      );
+    }

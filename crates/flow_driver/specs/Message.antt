@@ -1,5 +1,6 @@
 -- What the kinds and codes of messages mean.
-use Rattle.std.specs.Prelude.{List, ℕ, Bool, true, false, codes}
+use Rattle.std.specs.Prelude.{List, ℕ, Bool, true, false, codes, ◌↔◌}
+use Rattle.std.specs.List.{Contains}
 use Rattle.std.specs.Ordering.{nat_cmp, on, then_cmp}
 use Rattle.std.specs.Cmp.Lexicographic.{slice_cmp}
 use Rattle.std.specs.declared.cmp.Ordering.{Ordering}
@@ -42,3 +43,7 @@ order =
     (then_cmp (on (λ m. code_text m.code) (slice_cmp nat_cmp))
     (then_cmp (on (λ m. m.text) (slice_cmp nat_cmp))
     (on (λ m. kind_number m.kind) nat_cmp))))
+
+-- the two lists have the same messages
+pub record HaveSame (xs ys : List Message) : Type 0 where
+  pub same : (m : Message) → Contains xs m ↔ Contains ys m

@@ -1,8 +1,7 @@
 //! Messages, their order and their text.
-ghost use Rattle.std.specs.Prelude.{◌≡◌, ◌++◌, ◌↔◌, IfOk, OnOk, map, string_bytes};
-ghost use Rattle.std.specs.List.{Contains};
+ghost use Rattle.std.specs.Prelude.{◌≡◌, ◌++◌, IfOk, OnOk, map, string_bytes};
 ghost use Rattle.std.specs.List.Sorted.{IsStrictlySortedBy};
-ghost use Rattle.flow_driver.specs.Message.{is_grave, kind_text, code_text, order};
+ghost use Rattle.flow_driver.specs.Message.{is_grave, kind_text, code_text, order, HaveSame};
 ghost use Rattle.flow_driver.specs.Text.{text, front, back, line_of, last_line, name_at, error_count, warning_count};
 
 use spark_base::{Bytes, FileNo, NoMemory, Pos};
@@ -77,8 +76,9 @@ pub struct Message {
 }
 
 /// The messages in order, and one of those that are equal. After `NoMemory` the list is given up.
+#[tactic(auto, using(crate::proofs::MessageOrder::rises, crate::proofs::MessageOrder::keeps))]
 pub fn ordered(list: Vec<Message>) -> Result<Vec<Message>, NoMemory>
-    ensures same { IfOk result (λ all. (m : Message) → Contains all.items m ↔ Contains list.items m) }
+    ensures same { IfOk result (λ all. HaveSame all.items list.items) }
     ensures rises { IfOk result (λ all. IsStrictlySortedBy order all.items) }
 {
     let mut list = list;
