@@ -81,3 +81,28 @@ pub fn written_input_text(alloc: Global, item: &[u8], body: &[u8]) -> Result<Byt
     text.append(b" writes it")?;
     Ok(text)
 }
+
+#[cfg(test)]
+mod tests {
+    use super::*;
+    use std::test::Fail;
+
+    #[test]
+    fn texts_name_what_they_are_about(rt: HostRuntime) -> Result<(), Fail> {
+        let alloc = rt.alloc();
+        let outside = outside_text(alloc, b"pragma")?;
+        assert_eq!(rt;
+            outside.as_slice(),
+            b"\"pragma\" is outside the subset".as_slice()
+        );
+        let unlisted = unlisted_text(alloc, b"X", UsedMode::InOut, b"P.Inc")?;
+        let want = b"\"X\" is In_Out in \"P.Inc\" but its Global does not list it";
+        assert_eq!(rt; unlisted.as_slice(), want.as_slice());
+        let written = written_input_text(alloc, b"X", b"P.Inc")?;
+        assert_eq!(rt;
+            written.as_slice(),
+            b"\"X\" is Input but \"P.Inc\" writes it".as_slice()
+        );
+        Ok(())
+    }
+}
