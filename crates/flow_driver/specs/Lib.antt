@@ -1,0 +1,7 @@
+pub mod Ending
+pub mod Message
+pub mod MessageTexts
+pub mod Reading
+pub mod Report
+pub mod Run
+pub mod Text

@@ -1,0 +1,70 @@
+ghost use Rattle.std.specs.Prelude.{◌≡◌, ◌⊎◌, ◌≤◌, ◌++◌, ◌↔◌, true, false, IsTrue, map, string_bytes, codes};
+ghost use Rattle.source_io.specs.Counts.{Rose, Grew};
+ghost use Rattle.flow_driver.specs.Run.{has_errors, verdict, are_accepted, IsCountedBy, IsPrinted, IsPartlyPrinted, GrewByPart, Complains};
+ghost use Rattle.flow_driver.specs.Ending.{Prints, IsStatus, CountsReadFault, CountsWriteFault, AsksNames};
+
+use crate::messages::{Message, text_of};
+use crate::{ReadFault, Report, read_all, report_of};
+use source_io::{Files, PrintFault, Sink, print_into};
+use std::alloc::Global;
+
+/// How a run ended.
+#[derive(Clone, Copy, Debug, PartialEq, Eq)]
+pub enum Ending {
+    Printed { status: u8 },
+    CannotRead { at: usize },
+    WriteFailed,
+    NoMemory,
+}
+
+/// Whether a message counts as an error.
+fn has_errors(list: &[Message]) -> bool
+    ensures { result ≡ has_errors list.now }
+{
+    list.iter().any(|message| message.kind.is_grave())
+}
+
+/// The status of a report.
+fn verdict(report: &Report) -> u8
+    ensures value { result ≡ verdict report.now }
+    ensures range { result ≤ 2 }
+{
+    if report.refused {
+        2
+    } else if has_errors(report.messages.as_slice()) {
+        1
+    } else {
+        0
+    }
+}
+
+/// Reads, analyses and prints.
+pub fn run<F: Files, K: Sink>(alloc: Global, names: &[String], files: &mut F, out: &mut K) -> Ending
+    ensures out { Prints F.told F.gaps K.held (map string_bytes names.now) files.old out.old out.new result }
+    ensures status { IsStatus result }
+    ensures read { CountsReadFault (F.faults files.old) (F.faults files.new) result }
+    ensures write { CountsWriteFault (K.faults out.old) (K.faults out.new) result }
+    ensures asks { AsksNames (map string_bytes names.now) (F.asked files.old) (F.asked files.new) result }
+{
+    let sources = match read_all(alloc, names, files) {
+        Ok(sources) => sources,
+        Err(ReadFault::Failed { at }) => return Ending::CannotRead { at },
+        Err(ReadFault::NoMemory) => return Ending::NoMemory,
+    };
+    if sources.len() > u32::MAX as usize {
+        return Ending::NoMemory;
+    }
+    let Ok(report) = report_of(alloc, sources.as_slice()) else {
+        return Ending::NoMemory;
+    };
+    let Ok(text) = text_of(alloc, names, report.messages.as_slice()) else {
+        return Ending::NoMemory;
+    };
+    match print_into(out, text.as_slice()) {
+        Ok(()) => Ending::Printed {
+            status: verdict(&report),
+        },
+        Err(PrintFault::Failed { .. }) => Ending::WriteFailed,
+        Err(PrintFault::NoMemory { .. }) => Ending::NoMemory,
+    }
+}

@@ -1,0 +1,15 @@
+//! The top call: from the words and the files to the printed report and the status.
+#![tactic(auto)]
+
+mod code_order;
+mod driver;
+pub mod message_texts;
+pub mod messages;
+mod reading;
+mod report;
+mod top;
+
+pub use driver::{Ending, run};
+pub use reading::{ReadFault, read_all};
+pub use report::{LIMIT, Report, report_of};
+pub use top::{run_clean, run_words};
