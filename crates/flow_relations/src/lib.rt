@@ -1,0 +1,4 @@
+//! The flow of a statement, the row of a body, and the sets and relations that tell them.
+#![tactic(auto)]
+
+pub mod rows;
