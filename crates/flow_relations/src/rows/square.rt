@@ -1,5 +1,5 @@
 ghost use Rattle.std.specs.Prelude.{◌≡◌, ◌≢◌, ℕ, ◌<◌, ◌^◌, ◌↔◌, ◌⊎◌, length, IsTrue, IfOk, false, slice_index_or, List, Bool, All, vec_len};
-ghost use Rattle.flow_relations.specs.Sets.{Has, Tells, Relates, TellsPairs, AreWide, Gains, GainsPair, Composes, LeadsTo, rooms};
+ghost use Rattle.flow_relations.specs.Sets.{Has, Tells, either, Relates, TellsPairs, AreWide, Gains, GainsPair, Composes, LeadsTo, rooms};
 
 use crate::rows::Row;
 use spark_base::NoMemory;
@@ -56,6 +56,61 @@ impl Square {
         ensures same { result ≡ false → self.new ≡ self.old }
     {
         self.rows[a as usize].add(b)
+    }
+
+    /// Takes away all pairs that begin at a number.
+    pub fn clear_row(&mut self, a: u32)
+        requires { a < length self.old }
+        ensures size { length self.new ≡ length self.old }
+        ensures set { TellsPairs self.new (λ x y. (x ≢ a) × Relates self.old x y) }
+    {
+        self.rows[a as usize].clear();
+    }
+
+    /// Adds the pairs of one number with each number of a set.
+    pub fn add_row(&mut self, a: u32, row: &Row)
+        requires a { a < length self.old }
+        requires row { length row.now ≡ length self.old }
+        ensures size { length self.new ≡ length self.old }
+        ensures set { TellsPairs self.new (λ x y. Relates self.old x y ⊎ ((x ≡ a) × Has row.now y)) }
+    {
+        self.rows[a as usize].union_into(row);
+    }
+
+    /// Makes `into` the set of the numbers to which one number is related.
+    pub fn copy_row(&self, a: u32, into: &mut Row)
+        requires a { a < length self.now }
+        requires into { length into.old ≡ length self.now }
+        ensures size { length into.new ≡ length into.old }
+        ensures set { Tells into.new (λ y. Relates self.now a y) }
+    {
+        into.copy_from(&self.rows[a as usize]);
+    }
+
+    pub fn copy_from(&mut self, other: &Square)
+        requires { length other.now ≡ length self.old }
+        ensures size { length self.new ≡ length self.old }
+        ensures set { TellsPairs self.new (λ a b. Relates other.now a b) }
+    {
+        copy_rows(self.rows.as_mut_slice(), other.rows.as_slice())
+    }
+
+    /// Adds to `into` each number that is related to itself.
+    pub fn diagonal_into(&self, into: &mut Row)
+        requires { length into.old ≡ length self.now }
+        ensures size { length into.new ≡ length into.old }
+        ensures set { Tells into.new (either into.old (λ v. Relates self.now v v)) }
+    {
+        diagonal_rows(self.rows.as_slice(), into)
+    }
+
+    /// Keeps the pairs whose two numbers are in the set.
+    pub fn restrict(&mut self, row: &Row)
+        requires { length row.now ≡ length self.old }
+        ensures size { length self.new ≡ length self.old }
+        ensures set { TellsPairs self.new (λ a b. Relates self.old a b × (Has row.now a × Has row.now b)) }
+    {
+        restrict_rows(self.rows.as_mut_slice(), row)
     }
 
     pub fn union_into(&mut self, other: &Square)
@@ -271,6 +326,81 @@ fn back_at(rows: &[Row], row: &Row, into: &mut Row, a: usize)
 {
     if rows[a].meets(row) {
         into.add(a as u32);
+    }
+}
+
+fn copy_rows(into: &mut [Row], from: &[Row])
+    requires wide { AreWide (length into.old) into.old }
+    requires from { length from.now ≡ length into.old }
+    requires from_wide { AreWide (length into.old) from.now }
+    ensures wide { AreWide (length into.old) into.new }
+    ensures set { TellsPairs into.new (λ a b. Relates from.now a b) }
+{
+    for a in 0..into.len() {
+        copy_at(into, from, a);
+    }
+}
+
+fn copy_at(into: &mut [Row], from: &[Row], a: usize)
+    requires in_range { a < length into.old }
+    requires wide { AreWide (length into.old) into.old }
+    requires from { length from.now ≡ length into.old }
+    requires from_wide { AreWide (length into.old) from.now }
+    ensures wide { AreWide (length into.old) into.new }
+    ensures set { TellsPairs into.new (λ x b. ((x ≢ a) × Relates into.old x b) ⊎ ((x ≡ a) × Relates from.now x b)) }
+{
+    into[a].copy_from(&from[a]);
+}
+
+fn diagonal_rows(rows: &[Row], into: &mut Row)
+    requires size { length rows.now < 2 ^ 32 }
+    requires wide { AreWide (length rows.now) rows.now }
+    requires into { length into.old ≡ length rows.now }
+    ensures size { length into.new ≡ length into.old }
+    ensures set { Tells into.new (either into.old (λ v. Relates rows.now v v)) }
+{
+    for a in 0..rows.len() {
+        diagonal_at(rows, into, a);
+    }
+}
+
+fn diagonal_at(rows: &[Row], into: &mut Row, a: usize)
+    requires in_range { a < length rows.now }
+    requires size { length rows.now < 2 ^ 32 }
+    requires wide { AreWide (length rows.now) rows.now }
+    requires into { length into.old ≡ length rows.now }
+    ensures size { length into.new ≡ length into.old }
+    ensures set { Tells into.new (λ v. Has into.old v ⊎ ((v ≡ a) × Relates rows.now v v)) }
+{
+    if rows[a].has(a as u32) {
+        into.add(a as u32);
+    }
+}
+
+fn restrict_rows(into: &mut [Row], row: &Row)
+    requires size { length into.old < 2 ^ 32 }
+    requires wide { AreWide (length into.old) into.old }
+    requires row { length row.now ≡ length into.old }
+    ensures wide { AreWide (length into.old) into.new }
+    ensures set { TellsPairs into.new (λ a b. Relates into.old a b × (Has row.now a × Has row.now b)) }
+{
+    for a in 0..into.len() {
+        restrict_at(into, row, a);
+    }
+}
+
+fn restrict_at(into: &mut [Row], row: &Row, a: usize)
+    requires in_range { a < length into.old }
+    requires size { length into.old < 2 ^ 32 }
+    requires wide { AreWide (length into.old) into.old }
+    requires row { length row.now ≡ length into.old }
+    ensures wide { AreWide (length into.old) into.new }
+    ensures set { TellsPairs into.new (λ x b. Relates into.old x b × (x ≡ a → Has row.now x × Has row.now b)) }
+{
+    if row.has(a as u32) {
+        into[a].intersect_into(row);
+    } else {
+        into[a].clear();
     }
 }
 
