@@ -1,4 +1,5 @@
 //! The flow of a statement, the row of a body, and the sets and relations that tell them.
 #![tactic(auto)]
 
+mod reads;
 pub mod rows;
