@@ -1,5 +1,6 @@
 //! The flow of a statement, the row of a body, and the sets and relations that tell them.
 #![tactic(auto)]
 
+mod facts;
 mod reads;
 pub mod rows;
