@@ -2,6 +2,7 @@
 use Rattle.std.specs.Prelude.{◌≡◌, ℕ, ◌+◌, IsTrue, length}
 use Rattle.core_form.specs.Code.{Outcome, Next}
 use Rattle.flow_relations.specs.declared.facts.Facts.{Facts}
+use Rattle.flow_relations.specs.declared.statements.Room.{Room}
 use Rattle.flow_relations.specs.Flow.{Flow}
 use Rattle.flow_relations.specs.Sets.{Has, Relates}
 
@@ -22,3 +23,8 @@ told f = record {
   kept = λ o v w. (o ≡ Next) × Relates f.kept v w;
   dep = λ o v w. (o ≡ Next) × Relates f.dep v w;
 }
+
+-- the rows to work in have this size
+pub record HasRoom (n : ℕ) (r : Room) : Type 0 where
+  pub reads : length r.reads ≡ n
+  pub row : length r.row ≡ n

@@ -4,3 +4,4 @@
 mod facts;
 mod reads;
 pub mod rows;
+mod statements;
