@@ -1,7 +1,7 @@
 -- Flows with the same facts.
-use Rattle.std.proofs.Common.{◌≡◌, ◌≢◌, ℕ, ◌<◌, ◌≤◌, ◌⊎◌, ◌↔◌, arith}
-use Rattle.core_form.specs.Code.{Outcome, Next}
-use Rattle.flow_relations.specs.Flow.{Flow, leaving, moving, changing, clearing, seq, branch, IsWithin, IsSame}
+use Rattle.std.proofs.Common.{◌≡◌, ◌≢◌, ℕ, ◌<◌, ◌≤◌, ◌⊎◌, ◌↔◌, Bool, true, false, arith}
+use Rattle.core_form.specs.Code.{Exprs, At, Outcome, Next}
+use Rattle.flow_relations.specs.Flow.{Flow, leaving, moving, changing, setting, clearing, seq, reads_of_all, branch, IsWithin, IsSame}
 use Rattle.flow_relations.proofs.Grows.{seq_grows, branch_grows}
 
 -- each is within the other
@@ -95,7 +95,7 @@ changing_same void x S T t = record {
 }
 
 -- a last statement that does nothing adds nothing
-pub moving_last : (void x : ℕ) (S : ℕ → Type 0) → x < void → IsSame (seq void (moving void x S) (leaving void Next)) (moving void x S)
+moving_last : (void x : ℕ) (S : ℕ → Type 0) → x < void → IsSame (seq void (moving void x S) (leaving void Next)) (moving void x S)
 moving_last void x S l = record {
   reads = λ v. grind arith;
   writes = λ v. grind arith;
@@ -105,7 +105,7 @@ moving_last void x S l = record {
   dep = λ o v w. grind arith;
 }
 
-pub changing_last : (void x : ℕ) (S : ℕ → Type 0) → x < void → IsSame (seq void (changing void x S) (leaving void Next)) (changing void x S)
+changing_last : (void x : ℕ) (S : ℕ → Type 0) → x < void → IsSame (seq void (changing void x S) (leaving void Next)) (changing void x S)
 changing_last void x S l = record {
   reads = λ v. grind arith;
   writes = λ v. grind arith;
@@ -124,3 +124,7 @@ clearing_last void x l = record {
   kept = λ o v w. grind arith;
   dep = λ o v w. grind arith;
 }
+
+pub setting_last : (void leaf : ℕ) (part : Exprs) (whole : Bool) (cells : ℕ) (S : ℕ → Type 0) → leaf < void → IsSame (seq void (setting void (At leaf part whole cells) S) (leaving void Next)) (setting void (At leaf part whole cells) S)
+setting_last void leaf part true cells S l = moving_last void leaf (λ v. S v ⊎ reads_of_all part v) l
+setting_last void leaf part false cells S l = changing_last void leaf (λ v. S v ⊎ reads_of_all part v) l
