@@ -2,6 +2,9 @@
 #![tactic(auto)]
 
 mod facts;
+mod flows;
 mod reads;
 pub mod rows;
 mod statements;
+
+pub use flows::{End, Flow, Outcome, flow_of};
