@@ -1,13 +1,14 @@
 -- What the rows of a statement's facts and of a body's flow say.
 use Rattle.std.specs.Prelude.{◌≡◌, ℕ, ◌+◌, ◌⊎◌, ◌↔◌, Bool, true, false, List, [], ◌∷◌, All, IsTrue, length}
 use Rattle.core_form.specs.Code.{Outcome, Next, Leaves, Returns}
+use Rattle.flow_relations.specs.declared.equation.BodyRow.{BodyRow}
 use Rattle.flow_relations.specs.declared.facts.Facts.{Facts}
 use Rattle.flow_relations.specs.declared.flows.End.{End}
 use Rattle.flow_relations.specs.declared.flows.Flow.{Flow as BodyFlow}
 use Rattle.flow_relations.specs.declared.flows.Outcome.{Outcome as EndOutcome}
 use Rattle.flow_relations.specs.declared.statements.Room.{Room}
-use Rattle.flow_relations.specs.Flow.{Flow}
-use Rattle.flow_relations.specs.Sets.{Has, Relates}
+use Rattle.flow_relations.specs.Flow.{Flow, Summary}
+use Rattle.flow_relations.specs.Sets.{Has, Relates, Tells, TellsPairs}
 
 -- the rows have this size
 pub record AreSized (n : ℕ) (f : Facts) : Type 0 where
@@ -68,3 +69,19 @@ flow_told f = record {
 abbrev pub ends_tell : Bool → List (List Bool) → List (List Bool) → List End
 ends_tell true kept dep = record { outcome = EndOutcome.Next; kept = kept; dep = dep } ∷ []
 ends_tell false kept dep = []
+
+-- The row of a body
+
+pub record AreRowsSized (n : ℕ) (r : BodyRow) : Type 0 where
+  pub reads : length r.reads ≡ n
+  pub writes : length r.writes ≡ n
+  pub keeps : length r.keeps ≡ n
+  pub depends : length r.depends ≡ n
+
+-- the rows tell these facts, exactly
+pub record IsRow (r : BodyRow) (s : Summary) : Type 0 where
+  pub returns : IsTrue r.returns ↔ s.returns
+  pub reads : Tells r.reads s.reads
+  pub writes : Tells r.writes s.writes
+  pub keeps : Tells r.keeps s.keeps
+  pub depends : TellsPairs r.depends s.depends

@@ -20,8 +20,8 @@ flow_from-requires-clause-dep c = λ v w r.
 
 pub returns-clause-flow : goal.returns-clause-flow
 returns-clause-flow c = rw c.at.ensures (
-  IfOk-weaker c.flow_from.result
-  (λ f. IsSame (flow_told f) (told c.in_ok-facts.facts))
-  (λ f. IsSame (flow_told f) (plain_flow c.args.program.now (code_of c.args.program.now.exprs c.args.program.now.stmts c.at.result.now.code)))
-  (λ f h. same_through _ _ _ h c.in_ok-facts.ensures.flow)
-  c.flow_from.ensures.flow)
+    IfOk-weaker c.flow_from.result
+    (λ f. IsSame (flow_told f) (told c.in_ok-facts.facts))
+    (λ f. IsSame (flow_told f) (plain_flow c.args.program.now (code_of c.args.program.now.exprs c.args.program.now.stmts c.at.result.now.code)))
+    (λ f h. same_through _ _ _ h c.in_ok-facts.ensures.flow)
+    c.flow_from.ensures.flow)
