@@ -4,6 +4,7 @@
 mod equation;
 mod facts;
 mod flows;
+pub mod laws;
 mod names;
 mod reads;
 pub mod rows;
