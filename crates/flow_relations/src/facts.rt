@@ -119,59 +119,59 @@ pub fn branch_with(a: &mut Facts, test: &Row, b: &Facts)
 }
 
 /// Puts a move to a leaf before what follows. `row` is room to work in.
-pub fn prepend_move(rest: &mut Facts, void: u32, x: u32, from: &Row, row: &mut Row)
-    requires leaf { x < void }
+pub fn prepend_move(rest: &mut Facts, void: u32, to: u32, from: &Row, row: &mut Row)
+    requires leaf { to < void }
     requires size { AreSized (void + 1) rest.old }
     requires from { length from.now ≡ void + 1 }
     requires row { length row.old ≡ void + 1 }
     ensures size { AreSized (void + 1) rest.new }
     ensures row { length row.new ≡ void + 1 }
-    ensures flow { IsSame (told rest.new) (seq void (moving void x (Has from.now)) (told rest.old)) }
+    ensures flow { IsSame (told rest.new) (seq void (moving void to (Has from.now)) (told rest.old)) }
 {
-    rest.reads.remove(x);
+    rest.reads.remove(to);
     rest.reads.remove(void);
     rest.reads.union_into(from);
-    rest.writes.add(x);
-    rest.kept.clear_row(x);
-    rest.dep.copy_row(x, row);
-    rest.dep.clear_row(x);
+    rest.writes.add(to);
+    rest.kept.clear_row(to);
+    rest.dep.copy_row(to, row);
+    rest.dep.clear_row(to);
     rest.dep.clear_row(void);
     rest.dep.cross_into(from, row);
 }
 
 /// Puts a move to a part of a leaf before what follows. `row` is room to work in.
-pub fn prepend_change(rest: &mut Facts, void: u32, x: u32, from: &Row, row: &mut Row)
-    requires leaf { x < void }
+pub fn prepend_change(rest: &mut Facts, void: u32, of: u32, from: &Row, row: &mut Row)
+    requires leaf { of < void }
     requires size { AreSized (void + 1) rest.old }
     requires from { length from.now ≡ void + 1 }
     requires row { length row.old ≡ void + 1 }
     ensures size { AreSized (void + 1) rest.new }
     ensures row { length row.new ≡ void + 1 }
-    ensures flow { IsSame (told rest.new) (seq void (changing void x (Has from.now)) (told rest.old)) }
+    ensures flow { IsSame (told rest.new) (seq void (changing void of (Has from.now)) (told rest.old)) }
 {
     rest.reads.remove(void);
     rest.reads.union_into(from);
-    rest.writes.add(x);
-    rest.dep.copy_row(x, row);
+    rest.writes.add(of);
+    rest.dep.copy_row(of, row);
     rest.dep.clear_row(void);
     rest.dep.cross_into(from, row);
 }
 
 /// Puts before what follows that a leaf is no longer assigned. `row` is room to work in.
-pub fn prepend_clear(rest: &mut Facts, void: u32, x: u32, row: &mut Row)
-    requires leaf { x < void }
+pub fn prepend_clear(rest: &mut Facts, void: u32, leaf: u32, row: &mut Row)
+    requires leaf { leaf < void }
     requires size { AreSized (void + 1) rest.old }
     requires row { length row.old ≡ void + 1 }
     ensures size { AreSized (void + 1) rest.new }
     ensures row { length row.new ≡ void + 1 }
-    ensures flow { IsSame (told rest.new) (seq void (clearing void x) (told rest.old)) }
+    ensures flow { IsSame (told rest.new) (seq void (clearing void leaf) (told rest.old)) }
 {
-    rest.reads.remove(x);
+    rest.reads.remove(leaf);
     rest.reads.remove(void);
-    rest.writes.add(x);
-    rest.kept.copy_row(x, row);
-    rest.kept.clear_row(x);
+    rest.writes.add(leaf);
+    rest.kept.copy_row(leaf, row);
+    rest.kept.clear_row(leaf);
     rest.kept.add_row(void, row);
-    rest.dep.clear_row(x);
+    rest.dep.clear_row(leaf);
     rest.dep.clear_row(void);
 }
