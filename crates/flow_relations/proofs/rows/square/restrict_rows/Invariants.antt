@@ -1,0 +1,9 @@
+use Rattle.std.proofs.Common.{◌≡◌, ℕ, ◌<◌, ◌⊎◌, length}
+use Rattle.flow_relations.specs.Sets.{Has, Relates, TellsPairs, AreWide}
+use Rattle.flow_relations.proofs.rows.square.restrict_rows.Given as goal
+
+abbrev pub invariant-loop-a : goal.invariant-loop-a
+invariant-loop-a l = record {
+  wide : AreWide (length l.initial.into) l.into;
+  set : TellsPairs l.into (λ x y. Relates l.initial.into x y × (x < l.a → Has l.row x × Has l.row y));
+}

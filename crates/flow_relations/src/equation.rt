@@ -1,0 +1,220 @@
+ghost use Rattle.std.specs.Prelude.{◌≡◌, ◌≢◌, ℕ, ◌+◌, ◌<◌, ◌≤◌, ◌⊎◌, ◌↔◌, Some, true, false, length, slice_get, IfOk, IsSomeAnd, IsTrue};
+ghost use Rattle.core_form.specs.Code.{Code, code_of};
+ghost use Rattle.core_form.specs.Fine.{IsWellFormed, home_of};
+ghost use Rattle.flow_relations.specs.Equation.{IsLibrary, IsPassed, IsRowLeaf, equation, is_out, opened, plain_flow, starts_unset};
+ghost use Rattle.flow_relations.specs.Flow.{IsSame, clearing, row_of, seq};
+ghost use Rattle.flow_relations.specs.Sets.{Has, Tells};
+ghost use Rattle.flow_relations.specs.Told.{AreRowsSized, AreSized, HasRoom, IsRow, told};
+
+use crate::facts::{Facts, prepend_clear};
+use crate::names::add_names;
+use crate::rows::{Row, Square};
+use crate::statements::{Room, facts_of, new_room, void_of};
+use core_form::{Formal, Home, ParamMode, Program};
+use spark_base::{BodyNo, LeafNo, NoMemory, VarNo};
+use std::alloc::Global;
+
+/// What is known of a body by its code, in the leaves that its callers know too: library leaves, its formals' and
+/// its result's. A row has one place more than there are leaves, which is never set.
+#[derive(Drop)]
+pub struct BodyRow {
+    /// Whether it may return.
+    pub returns: bool,
+    /// Leaves whose entry value may be read.
+    pub reads: Row,
+    /// Leaves that may be written or cleared.
+    pub writes: Row,
+    /// Leaves that may hold their entry value at the return.
+    pub keeps: Row,
+    /// Of v and w: the entry value of v may decide w at the return.
+    pub depends: Square,
+}
+
+// Whether a variable is a formal of mode out.
+fn is_out(formals: &[Formal], var: VarNo) -> bool
+    ensures { result ≡ is_out formals.now var.0 }
+{
+    for formal in formals {
+        if formal.var == var && formal.mode == ParamMode::Out {
+            return true;
+        }
+    }
+    false
+}
+
+// Whether a leaf is unassigned where a body begins.
+fn starts_unset(program: &Program, body: BodyNo, formals: &[Formal], leaf: LeafNo) -> bool
+    requires fine { IsWellFormed program.now }
+    requires leaf { leaf.0 < length program.now.leaves }
+    ensures { result ≡ starts_unset program.now body.0 formals.now leaf.0 }
+{
+    let var = program.leaves.at(leaf.0 as usize).var;
+    match program.vars.at(var.0 as usize).home {
+        Home::Package(_) => false,
+        Home::Local(of) | Home::Outcome(of) | Home::Spare(of) => of == body,
+        Home::Formal(of) => of == body && is_out(formals, var),
+    }
+}
+
+// Whether a leaf is one of a package's variable.
+fn is_library(program: &Program, leaf: LeafNo) -> bool
+    requires fine { IsWellFormed program.now }
+    requires leaf { leaf.0 < length program.now.leaves }
+    ensures { IsTrue result ↔ IsSomeAnd (home_of program.now leaf.0) IsLibrary }
+{
+    let var = program.leaves.at(leaf.0 as usize).var;
+    match program.vars.at(var.0 as usize).home {
+        Home::Package(_) => true,
+        Home::Local(_) | Home::Formal(_) | Home::Outcome(_) | Home::Spare(_) => false,
+    }
+}
+
+// Whether a leaf is one of a body's formals or of its result.
+fn is_passed(program: &Program, body: BodyNo, leaf: LeafNo) -> bool
+    requires fine { IsWellFormed program.now }
+    requires leaf { leaf.0 < length program.now.leaves }
+    ensures { IsTrue result ↔ IsSomeAnd (home_of program.now leaf.0) (IsPassed body.0) }
+{
+    let var = program.leaves.at(leaf.0 as usize).var;
+    match program.vars.at(var.0 as usize).home {
+        Home::Formal(of) | Home::Outcome(of) => of == body,
+        Home::Package(_) | Home::Local(_) | Home::Spare(_) => false,
+    }
+}
+
+// Puts before what follows that a leaf is unassigned, where it is so at the beginning of a body.
+fn open_leaf(
+    program: &Program,
+    body: BodyNo,
+    formals: &[Formal],
+    leaf: LeafNo,
+    facts: &mut Facts,
+    room: &mut Room,
+)
+    requires fine { IsWellFormed program.now }
+    requires leaf { leaf.0 < length program.now.leaves }
+    requires size { AreSized (length program.now.leaves + 1) facts.old }
+    requires room { HasRoom (length program.now.leaves + 1) room.old }
+    ensures size { AreSized (length program.now.leaves + 1) facts.new }
+    ensures room { HasRoom (length program.now.leaves + 1) room.new }
+    ensures unset { starts_unset program.now body.0 formals.now leaf.0 ≡ true
+        → IsSame (told facts.new) (seq (length program.now.leaves) (clearing (length program.now.leaves) leaf.0) (told facts.old)) }
+    ensures set { starts_unset program.now body.0 formals.now leaf.0 ≡ false → facts.new ≡ facts.old }
+{
+    if starts_unset(program, body, formals, leaf) {
+        prepend_clear(facts, void_of(program), leaf.0, &mut room.row);
+    }
+}
+
+// Puts before the code of a body that its own leaves are unassigned, from the last on.
+fn open_frame(
+    program: &Program,
+    body: BodyNo,
+    formals: &[Formal],
+    facts: &mut Facts,
+    room: &mut Room,
+)
+    requires fine { IsWellFormed program.now }
+    requires size { AreSized (length program.now.leaves + 1) facts.old }
+    requires room { HasRoom (length program.now.leaves + 1) room.old }
+    ensures size { AreSized (length program.now.leaves + 1) facts.new }
+    ensures flow { (code : Code) → IsSame (told facts.old) (plain_flow program.now code)
+        → IsSame (told facts.new) (plain_flow program.now (opened (starts_unset program.now body.0 formals.now) (length program.now.leaves) 0 code)) }
+{
+    for leaf in (0..void_of(program)).rev() {
+        open_leaf(program, body, formals, LeafNo(leaf), facts, room);
+    }
+}
+
+// Keeps a library leaf where it is in the set, puts in a formal's or the result's, and takes others away.
+fn settle_leaf(program: &Program, body: BodyNo, leaf: LeafNo, into: &mut Row)
+    requires fine { IsWellFormed program.now }
+    requires leaf { leaf.0 < length program.now.leaves }
+    requires size { length into.old ≡ length program.now.leaves + 1 }
+    ensures size { length into.new ≡ length into.old }
+    ensures set { Tells into.new (λ v. ((v ≢ leaf.0) × Has into.old v)
+        ⊎ ((v ≡ leaf.0) × ((IsSomeAnd (home_of program.now v) IsLibrary × Has into.old v) ⊎ IsSomeAnd (home_of program.now v) (IsPassed body.0)))) }
+{
+    if is_passed(program, body, leaf) {
+        into.add(leaf.0);
+    } else if !is_library(program, leaf) {
+        into.remove(leaf.0);
+    }
+}
+
+// The leaves of which the row of a body speaks, out of those that its code names.
+fn settle_leaves(program: &Program, body: BodyNo, into: &mut Row)
+    requires fine { IsWellFormed program.now }
+    requires size { length into.old ≡ length program.now.leaves + 1 }
+    ensures size { length into.new ≡ length into.old }
+    ensures set { Tells into.new (λ v. (IsSomeAnd (home_of program.now v) IsLibrary × Has into.old v)
+        ⊎ IsSomeAnd (home_of program.now v) (IsPassed body.0)) }
+{
+    into.remove(void_of(program));
+    for leaf in 0..void_of(program) {
+        settle_leaf(program, body, LeafNo(leaf), into);
+    }
+}
+
+// The leaves of which the row of a body speaks.
+fn row_leaves(alloc: Global, program: &Program, body: BodyNo) -> Result<Row, NoMemory>
+    requires fine { IsWellFormed program.now }
+    requires in_range { body.0 < length program.now.bodies }
+    ensures size { IfOk result (λ row. length row ≡ length program.now.leaves + 1) }
+    ensures set { IfOk result (λ row. Tells row (IsRowLeaf program.now body.0)) }
+{
+    let mut row = Row::new(alloc, void_of(program) + 1)?;
+    let code = program.bodies.at(body.0 as usize).code;
+    add_names(program, code, &mut row);
+    settle_leaves(program, body, &mut row);
+    Ok(row)
+}
+
+// The row that facts tell, in some leaves.
+fn row_from(alloc: Global, facts: Facts, named: &Row) -> Result<BodyRow, NoMemory>
+    requires size { AreSized (length named.now) facts }
+    ensures size { IfOk result (λ r. AreRowsSized (length named.now) r) }
+    ensures row { IfOk result (λ r. IsRow r (row_of (Has named.now) (told facts))) }
+{
+    let Facts {
+        mut reads,
+        mut writes,
+        next,
+        kept,
+        mut dep,
+    } = facts;
+    let mut keeps = Row::new(alloc, reads.size())?;
+    kept.diagonal_into(&mut keeps);
+    keeps.intersect_into(named);
+    reads.intersect_into(named);
+    writes.intersect_into(named);
+    dep.restrict(named);
+    Ok(BodyRow {
+        returns: next,
+        reads,
+        writes,
+        keeps,
+        depends: dep,
+    })
+}
+
+/// The row of a body by its code: its own leaves but the formals of modes in and in out begin unassigned.
+pub fn row_of_body(alloc: Global, program: &Program, body: BodyNo) -> Result<BodyRow, NoMemory>
+    requires fine { IsWellFormed program.now }
+    requires in_range { body.0 < length program.now.bodies }
+    ensures size { IfOk result (λ r. AreRowsSized (length program.now.leaves + 1) r) }
+    ensures row { IfOk result (λ r. IsRow r (equation program.now body.0)) }
+{
+    let mut room = new_room(alloc, void_of(program) + 1)?;
+    let node = program.bodies.at(body.0 as usize);
+    let mut facts = facts_of(alloc, program, node.code, &mut room)?;
+    open_frame(
+        program,
+        body,
+        node.formals.as_slice(),
+        &mut facts,
+        &mut room,
+    );
+    let named = row_leaves(alloc, program, body)?;
+    row_from(alloc, facts, &named)
+}

@@ -1,0 +1,14 @@
+//! The flow of a statement, the row of a body, and the sets and relations that tell them.
+#![tactic(auto)]
+
+mod equation;
+mod facts;
+mod flows;
+pub mod laws;
+mod names;
+mod reads;
+pub mod rows;
+mod statements;
+
+pub use equation::{BodyRow, row_of_body};
+pub use flows::{End, Flow, Outcome, flow_of};
