@@ -9,7 +9,7 @@ use Rattle.core_form.specs.declared.program.Program.{Program}
 use Rattle.core_form.specs.declared.code.CoreStmt.{CoreStmt}
 use Rattle.core_form.specs.declared.code.CoreExpr.{CoreExpr}
 use Rattle.core_form.specs.Code.{Expr, Exprs, Code, exprs_at, spot_at, expr_at, codes_at, code_at, expr_within, expr_of, code_within, code_of}
-use Rattle.core_form.specs.Fine.{ExprsBelow, StmtsBelow, IsFineExpr, IsFineStmt, IsWellFormed}
+use Rattle.core_form.specs.Fine.{ExprsBelow, StmtsBelow, IsFineExpr, IsFineStmt, HasFineNodes}
 
 -- two readings of the children that agree below the node's number
 pub exprs_same : (f g : ExprNo → Expr) (n : ℕ) → ((e : ExprNo) → e.0 < n → f e ≡ g e) → (es : List ExprNo) → ExprsBelow n es → exprs_at f es ≡ exprs_at g es
@@ -28,21 +28,21 @@ pub codes_same : (f g : StmtNo → Code) (n : ℕ) → ((s : StmtNo) → s.0 < n
 codes_same f g n same [] b = refl
 codes_same f g n same (s ∷ ss) b = let h = same s (All-head (λ x. x.0 < n) s ss b) in let t = codes_same f g n same ss (All-tail (λ x. x.0 < n) s ss b) in cc
 
-code_same : (p : Program) (expr : ExprNo → Expr) (f g : StmtNo → Code) (n : ℕ) → ((s : StmtNo) → s.0 < n → f s ≡ g s) → (node : CoreStmt) → IsFineStmt p n node → code_at expr f (Some node) ≡ code_at expr g (Some node)
-code_same p expr f g n same (CoreStmt.Move to e at) b = refl
-code_same p expr f g n same (CoreStmt.Fresh leaf) b = refl
-code_same p expr f g n same (CoreStmt.If test x y) b = let u = same x b.1 in let v = same y b.2 in cc
-code_same p expr f g n same (CoreStmt.Loop body) b = absurd b
-code_same p expr f g n same (CoreStmt.Leave k) b = absurd b
-code_same p expr f g n same CoreStmt.Back b = absurd b
-code_same p expr f g n same (CoreStmt.Call callee actuals at) b = absurd b
-code_same p expr f g n same (CoreStmt.Guarded object barrier call) b = absurd b
-code_same p expr f g n same (CoreStmt.DelayUntil e) b = absurd b
-code_same p expr f g n same (CoreStmt.Clock to) b = absurd b
-code_same p expr f g n same CoreStmt.Fail b = refl
-code_same p expr f g n same (CoreStmt.Seq stmts) b = codes_same f g n same stmts b
+code_same : (leaves exprs : ℕ) (expr : ExprNo → Expr) (f g : StmtNo → Code) (n : ℕ) → ((s : StmtNo) → s.0 < n → f s ≡ g s) → (node : CoreStmt) → IsFineStmt leaves exprs n node → code_at expr f (Some node) ≡ code_at expr g (Some node)
+code_same leaves exprs expr f g n same (CoreStmt.Move to e at) b = refl
+code_same leaves exprs expr f g n same (CoreStmt.Fresh leaf) b = refl
+code_same leaves exprs expr f g n same (CoreStmt.If test x y) b = let u = same x b.1 in let v = same y b.2 in cc
+code_same leaves exprs expr f g n same (CoreStmt.Loop body) b = absurd b
+code_same leaves exprs expr f g n same (CoreStmt.Leave k) b = absurd b
+code_same leaves exprs expr f g n same CoreStmt.Back b = absurd b
+code_same leaves exprs expr f g n same (CoreStmt.Call callee actuals at) b = absurd b
+code_same leaves exprs expr f g n same (CoreStmt.Guarded object barrier call) b = absurd b
+code_same leaves exprs expr f g n same (CoreStmt.DelayUntil e) b = absurd b
+code_same leaves exprs expr f g n same (CoreStmt.Clock to) b = absurd b
+code_same leaves exprs expr f g n same CoreStmt.Fail b = refl
+code_same leaves exprs expr f g n same (CoreStmt.Seq stmts) b = codes_same f g n same stmts b
 
-module _ (p : Program) (fine : IsWellFormed p) where
+module _ (p : Program) (fine : HasFineNodes p) where
   expr_node : (f g : ExprNo → Expr) (e : ExprNo) → ((c : ExprNo) → c.0 < e.0 → f c ≡ g c) → (o : Option CoreExpr) → slice_get p.exprs e.0 ≡ o → expr_at f o ≡ expr_at g o
   expr_node f g e same None is = refl
   expr_node f g e same (Some node) is = expr_same (length p.leaves) f g e.0 same node (fine.exprs e.0 node is)
@@ -61,7 +61,7 @@ module _ (p : Program) (fine : IsWellFormed p) where
 
   code_node : (f g : StmtNo → Code) (s : StmtNo) → ((c : StmtNo) → c.0 < s.0 → f c ≡ g c) → (o : Option CoreStmt) → slice_get p.stmts s.0 ≡ o → code_at (expr_of p.exprs) f o ≡ code_at (expr_of p.exprs) g o
   code_node f g s same None is = refl
-  code_node f g s same (Some node) is = code_same p (expr_of p.exprs) f g s.0 same node (fine.stmts s.0 node is)
+  code_node f g s same (Some node) is = code_same (length p.leaves) (length p.exprs) (expr_of p.exprs) f g s.0 same node (fine.stmts s.0 node is)
 
   code_stable : (n m : ℕ) (s : StmtNo) → s.0 < n → s.0 < m → code_within p.exprs p.stmts n s ≡ code_within p.exprs p.stmts m s
   code_stable zero m s h k = absurd (omega arith)
