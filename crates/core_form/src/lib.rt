@@ -3,12 +3,16 @@
 
 mod code;
 mod contract;
+mod fine;
+mod fine_nodes;
+mod fine_tables;
+mod names;
 mod nodes;
 mod program;
-mod well_formed;
 
 pub use code::{Actual, CoreExpr, CoreOp, CoreStmt, Place};
 pub use contract::{Contract, DependsPair, GlobalItem, Mode};
+pub use fine::well_formed;
 pub use program::{
     Body, BodyKind, Constituent, Formal, Home, InitialItem, Item, Leaf, Object, Package, ParamMode,
     Part, PartOf, Program, Sharing, StateDef, States, TaskUnit, Var,
