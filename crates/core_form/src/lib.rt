@@ -1,6 +1,7 @@
 //! The core form of a program: its variables, contracts and bodies, and their code as numbered nodes.
 #![tactic(auto)]
 
+mod build;
 mod code;
 mod contract;
 mod fine;
@@ -10,6 +11,7 @@ mod names;
 mod nodes;
 mod program;
 
+pub use build::Nodes;
 pub use code::{Actual, CoreExpr, CoreOp, CoreStmt, Place};
 pub use contract::{Contract, DependsPair, GlobalItem, Mode};
 pub use fine::well_formed;
