@@ -3,10 +3,10 @@ use Rattle.core_form.proofs.Added.{expr_added_fine, expr_added_tree, expr_added_
 use Rattle.core_form.proofs.build.Nodes.add_expr.Goals as goal
 
 pub returns-clause-fine : goal.returns-clause-fine
-returns-clause-fine c = λ leaves. expr_added_fine leaves c.args.self.now c.args.node c.push.new.self c.in_ok-push.ensures.ok (omega arith)
+returns-clause-fine c = expr_added_fine c.args.self.now c.args.node c.push.new.self c.in_ok-push.ensures.ok (omega arith) c.requires.fine c.requires.node
 
 pub returns-clause-tree : goal.returns-clause-tree
-returns-clause-tree c = λ leaves. expr_added_tree leaves c.args.self.now c.args.node c.push.new.self c.len-2.result c.in_ok-push.ensures.ok c.len-2.ensures
+returns-clause-tree c = expr_added_tree c.args.self.now c.args.node c.push.new.self c.len-2.result c.in_ok-push.ensures.ok c.len-2.ensures c.requires.fine c.requires.node
 
 pub returns-clause-older : goal.returns-clause-older
-returns-clause-older c = λ leaves. expr_added_keeps leaves c.args.self.now c.args.node c.push.new.self c.in_ok-push.ensures.ok
+returns-clause-older c = expr_added_keeps c.args.self.now c.args.node c.push.new.self c.in_ok-push.ensures.ok c.requires.fine
