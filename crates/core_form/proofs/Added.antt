@@ -1,5 +1,5 @@
 -- Nodes that are added one after another.
-use Rattle.std.proofs.Common.{◌≡◌, ℕ, ◌+◌, ◌^◌, ◌<◌, ◌≤◌, List, [], ◌∷◌, ◌++◌, Some, length, refl, ◌∙◌, arith, length-append}
+use Rattle.std.proofs.Common.{◌≡◌, ℕ, ◌+◌, ◌^◌, ◌<◌, List, [], ◌∷◌, ◌++◌, Some, length, refl, ◌∙◌, arith, length-append}
 use Rattle.spark_base.specs.declared.numbers.ExprNo.{ExprNo}
 use Rattle.spark_base.specs.declared.numbers.StmtNo.{StmtNo}
 use Rattle.core_form.specs.declared.build.Nodes.{Nodes}
@@ -79,7 +79,8 @@ stmt_added_keeps old node ss is fine =
       stmts = code_stmts_grown old.leaves (length old.exprs) old.exprs old.stmts (node ∷ []) fine.stmts;
     })
 
--- Steps after steps
+-- Steps after steps: with `keeps_then` at hand, by `#[tactic(auto, using(core_form::proofs::Added::keeps_then))]`, a
+-- function that adds some nodes mostly needs no answer
 
 pub keeps_same : (nodes : Nodes) → KeepsTrees nodes nodes
 keeps_same nodes = record { leaves_stay = omega arith; exprs_stay = omega arith; stmts_stay = omega arith; exprs = λ e h. refl; stmts = λ s h. refl }
