@@ -1,0 +1,14 @@
+pub mod Longest
+pub mod Bytes
+pub mod Fronts
+pub mod Texts
+pub mod Others
+pub mod Here
+pub mod Cuts
+pub mod Numbers
+pub mod Fitting
+pub mod LongestLaws
+pub mod NumberLaws
+pub mod OrderLaws
+pub mod ValueLaws
+pub mod WordLaws

@@ -1,0 +1,124 @@
+ghost use Rattle.std.specs.Prelude.{◌≡◌, ◌<◌, ◌≤◌, length};
+ghost use Rattle.ada_lexer.specs.Answer.{IsWithin};
+ghost use Rattle.ada_lexer.specs.Pieces as pieces;
+ghost use Rattle.ada_lexer.specs.Runs as runs;
+
+use crate::classes::is_printable;
+use crate::piece::{Fault, Piece};
+use crate::refusal::LexCode;
+use crate::token::{Mark, TokenKind};
+
+/// The mark of one byte.
+#[tactic(auto, unfolding(crate::specs::Pieces::single))]
+fn single(b: u8) -> Option<Mark>
+    ensures { result ≡ pieces.single b }
+{
+    match b {
+        b'&' => Some(Mark::Ampersand),
+        b'\'' => Some(Mark::Tick),
+        b'(' => Some(Mark::Open),
+        b')' => Some(Mark::Close),
+        b'*' => Some(Mark::Star),
+        b'+' => Some(Mark::Plus),
+        b',' => Some(Mark::Comma),
+        b'-' => Some(Mark::Minus),
+        b'.' => Some(Mark::Dot),
+        b'/' => Some(Mark::Slash),
+        b':' => Some(Mark::Colon),
+        b';' => Some(Mark::Semicolon),
+        b'<' => Some(Mark::Less),
+        b'=' => Some(Mark::Equal),
+        b'>' => Some(Mark::Greater),
+        b'|' => Some(Mark::Bar),
+        _ => None,
+    }
+}
+
+/// The mark of two bytes.
+#[tactic(auto, unfolding(crate::specs::Pieces::double))]
+fn double(a: u8, b: u8) -> Option<Mark>
+    ensures { result ≡ pieces.double a b }
+{
+    if a == b'=' && b == b'>' {
+        Some(Mark::Arrow)
+    } else if a == b'.' && b == b'.' {
+        Some(Mark::Dots)
+    } else if a == b'*' && b == b'*' {
+        Some(Mark::Power)
+    } else if a == b':' && b == b'=' {
+        Some(Mark::Becomes)
+    } else if a == b'/' && b == b'=' {
+        Some(Mark::NotEqual)
+    } else if a == b'>' && b == b'=' {
+        Some(Mark::AtLeast)
+    } else if a == b'<' && b == b'=' {
+        Some(Mark::AtMost)
+    } else if a == b'<' && b == b'<' {
+        Some(Mark::OpenLabel)
+    } else if a == b'>' && b == b'>' {
+        Some(Mark::CloseLabel)
+    } else if a == b'<' && b == b'>' {
+        Some(Mark::Box)
+    } else {
+        None
+    }
+}
+
+/// A mark of one byte, or what is wrong with that byte.
+fn one_mark(b: u8) -> Result<Piece, Fault>
+    ensures piece { result ≡ runs.one_mark b (pieces.single b) }
+    ensures within { IsWithin result 1 }
+{
+    match single(b) {
+        Some(mark) => Ok(Piece {
+            len: 1,
+            kind: Some(TokenKind::Mark(mark)),
+        }),
+        None => {
+            let code = if b > 127 { LexCode::L01 } else { LexCode::L04 };
+            Err(Fault { code, at: 0 })
+        }
+    }
+}
+
+/// A mark of two bytes, or else of their first.
+fn two_marks(b: u8, c: u8) -> Result<Piece, Fault>
+    ensures piece { result ≡ runs.two_marks b (pieces.double b c) }
+    ensures within { IsWithin result 2 }
+{
+    match double(b, c) {
+        Some(mark) => Ok(Piece {
+            len: 2,
+            kind: Some(TokenKind::Mark(mark)),
+        }),
+        None => one_mark(b),
+    }
+}
+
+/// Whether three bytes are a character, where a tick is no mark.
+fn is_ticked(ticked: bool, b: u8, c: u8, d: u8) -> bool
+    ensures { result ≡ runs.ticked_byte ticked b c d }
+{
+    !ticked && b == b'\'' && is_printable(c) && d == b'\''
+}
+
+/// A mark or a character at the front, or what is wrong with the first byte.
+#[tactic(auto, using(crate::proofs::Here::other_long, crate::proofs::Here::other_two, crate::proofs::Here::other_one))]
+pub fn other_piece(ticked: bool, bytes: &[u8]) -> Result<Piece, Fault>
+    requires { 0 < length bytes.now }
+    ensures piece { result ≡ runs.other ticked bytes.now }
+    ensures within { IsWithin result (length bytes.now) }
+{
+    let b = bytes[0];
+    if bytes.len() < 2 {
+        return one_mark(b);
+    }
+    let c = bytes[1];
+    if bytes.len() > 2 && is_ticked(ticked, b, c, bytes[2]) {
+        return Ok(Piece {
+            len: 3,
+            kind: Some(TokenKind::Character),
+        });
+    }
+    two_marks(b, c)
+}

@@ -1,0 +1,17 @@
+use crate::refusal::LexCode;
+use crate::token::TokenKind;
+
+/// A piece of a source: white space, a comment or a token.
+#[derive(Clone, Copy, Debug, PartialEq, Eq)]
+pub struct Piece {
+    pub len: usize,
+    /// The kind of a token; none for white space and comments.
+    pub kind: Option<TokenKind>,
+}
+
+/// A refusal at a byte, counted from where a piece was to begin.
+#[derive(Clone, Copy, Debug, PartialEq, Eq)]
+pub struct Fault {
+    pub code: LexCode,
+    pub at: usize,
+}
