@@ -43,20 +43,34 @@ IsFineExpr leaves e (CoreExpr.Choose test a b) = (test.0 < e) × (a.0 < e) × (b
 IsFineExpr leaves e (CoreExpr.Build parts) = ExprsBelow e parts
 IsFineExpr leaves e (CoreExpr.Within x low high) = x.0 < e
 
--- the forms that have no meaning yet are no part of a well-formed program
-abbrev pub IsFineStmt : Program → ℕ → CoreStmt → Type 0
-IsFineStmt p s (CoreStmt.Move to e at) = PlaceBelow (length p.leaves) (length p.exprs) to × (e.0 < length p.exprs)
-IsFineStmt p s (CoreStmt.Fresh leaf) = leaf.0 < length p.leaves
-IsFineStmt p s (CoreStmt.If test a b) = (test.0 < length p.exprs) × (a.0 < s) × (b.0 < s)
-IsFineStmt p s (CoreStmt.Loop body) = ⊥
-IsFineStmt p s (CoreStmt.Leave n) = ⊥
-IsFineStmt p s CoreStmt.Back = ⊥
-IsFineStmt p s (CoreStmt.Call callee actuals at) = ⊥
-IsFineStmt p s (CoreStmt.Guarded object barrier call) = ⊥
-IsFineStmt p s (CoreStmt.DelayUntil e) = ⊥
-IsFineStmt p s (CoreStmt.Clock to) = ⊥
-IsFineStmt p s CoreStmt.Fail = Unit {0}
-IsFineStmt p s (CoreStmt.Seq stmts) = StmtsBelow s stmts
+-- a statement of a program of so many leaves and expressions; the forms that have no meaning yet are no part of a
+-- well-formed program
+abbrev pub IsFineStmt : ℕ → ℕ → ℕ → CoreStmt → Type 0
+IsFineStmt leaves exprs s (CoreStmt.Move to e at) = PlaceBelow leaves exprs to × (e.0 < exprs)
+IsFineStmt leaves exprs s (CoreStmt.Fresh leaf) = leaf.0 < leaves
+IsFineStmt leaves exprs s (CoreStmt.If test a b) = (test.0 < exprs) × (a.0 < s) × (b.0 < s)
+IsFineStmt leaves exprs s (CoreStmt.Loop body) = ⊥
+IsFineStmt leaves exprs s (CoreStmt.Leave n) = ⊥
+IsFineStmt leaves exprs s CoreStmt.Back = ⊥
+IsFineStmt leaves exprs s (CoreStmt.Call callee actuals at) = ⊥
+IsFineStmt leaves exprs s (CoreStmt.Guarded object barrier call) = ⊥
+IsFineStmt leaves exprs s (CoreStmt.DelayUntil e) = ⊥
+IsFineStmt leaves exprs s (CoreStmt.Clock to) = ⊥
+IsFineStmt leaves exprs s CoreStmt.Fail = Unit {0}
+IsFineStmt leaves exprs s (CoreStmt.Seq stmts) = StmtsBelow s stmts
+
+abbrev pub AreFineExprs : ℕ → List CoreExpr → Type 0
+AreFineExprs leaves exprs = (e : ℕ) (node : CoreExpr) → slice_get exprs e ≡ Some node → IsFineExpr leaves e node
+
+abbrev pub AreFineStmts : ℕ → ℕ → List CoreStmt → Type 0
+AreFineStmts leaves exprs stmts = (s : ℕ) (node : CoreStmt) → slice_get stmts s ≡ Some node → IsFineStmt leaves exprs s node
+
+-- what is asked of the nodes: by it alone, the code of a number can be followed
+pub record HasFineNodes (p : Program) : Type 0 where
+  -- each number has its place, and a row one more for "not assigned"
+  pub room : (length p.leaves + 1 < 2 ^ 32) × (length p.exprs < 2 ^ 32) × (length p.stmts < 2 ^ 32)
+  pub exprs : AreFineExprs (length p.leaves) p.exprs
+  pub stmts : AreFineStmts (length p.leaves) (length p.exprs) p.stmts
 
 -- Tables
 
@@ -169,10 +183,7 @@ CodeIn P (ReadClock to) = ⊥
 CodeIn P Stop = Unit {0}
 
 pub record IsWellFormed (p : Program) : Type 0 where
-  -- each number has its place, and a row one more for "not assigned"
-  pub room : (length p.leaves + 1 < 2 ^ 32) × (length p.exprs < 2 ^ 32) × (length p.stmts < 2 ^ 32)
-  pub exprs : (e : ℕ) (node : CoreExpr) → slice_get p.exprs e ≡ Some node → IsFineExpr (length p.leaves) e node
-  pub stmts : (s : ℕ) (node : CoreStmt) → slice_get p.stmts s ≡ Some node → IsFineStmt p s node
+  pub nodes : HasFineNodes p
   pub leaves : All (λ l. l.var.0 < length p.vars) p.leaves
   pub vars : All (IsFineVar p) p.vars
   pub items : All (IsFineItem p) p.items

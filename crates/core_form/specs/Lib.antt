@@ -1,3 +1,4 @@
+pub mod Added
 pub mod Code
 pub mod Fine
 pub mod Proper
