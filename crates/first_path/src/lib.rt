@@ -7,4 +7,9 @@ mod source;
 mod steps;
 mod units;
 
-pub use source::{Sign, Symbol, Variable, Word};
+pub use reading::ReadFault;
+pub use source::{
+    Adding, Block, Entry, GlobalForm, Names, PackageBody, Primary, ProcedureBody, ProcedureSpec, Sign,
+    Source, Spec, Statement, Sum, Symbol, Term, Variable, Word,
+};
+pub use units::read_source;

@@ -1,0 +1,6 @@
+//! The core program of a source of the first path.
+#![tactic(auto)]
+
+mod code;
+mod exprs;
+mod table;
