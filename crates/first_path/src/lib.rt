@@ -5,6 +5,7 @@ mod global;
 mod reading;
 mod source;
 mod steps;
+mod symbols;
 mod units;
 
 pub use source::{Sign, Symbol, Variable, Word};
