@@ -1,3 +1,4 @@
 pub mod Denied
+pub mod Inside
 pub mod Lists
 pub mod One

@@ -4,8 +4,13 @@
 mod global;
 mod reading;
 mod source;
+mod sources;
 mod steps;
 mod symbols;
 mod units;
 
-pub use source::{Sign, Symbol, Variable, Word};
+pub use source::{
+    Adding, Block, Entry, GlobalForm, Names, PackageBody, Primary, ProcedureBody, ProcedureSpec,
+    Sign, Source, Spec, Statement, Sum, Symbol, Term, Variable, Word,
+};
+pub use sources::reading_of;
