@@ -2,6 +2,7 @@
 #![tactic(auto)]
 
 mod global;
+mod names;
 mod reading;
 mod source;
 mod sources;
