@@ -1,3 +1,5 @@
 pub mod Denied
+pub mod Inside
 pub mod Lists
+pub mod Maps
 pub mod One

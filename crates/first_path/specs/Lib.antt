@@ -1,3 +1,4 @@
 pub mod Begins
 pub mod Conditions
 pub mod Spelling
+pub mod Symbols

@@ -2,14 +2,17 @@
 #![tactic(auto)]
 
 mod global;
+mod names;
 mod reading;
 mod source;
+mod sources;
 mod steps;
+mod symbols;
 mod units;
 
-pub use reading::ReadFault;
 pub use source::{
-    Adding, Block, Entry, GlobalForm, Names, PackageBody, Primary, ProcedureBody, ProcedureSpec, Sign,
-    Source, Spec, Statement, Sum, Symbol, Term, Variable, Word,
+    Adding, Block, Entry, GlobalForm, Names, PackageBody, Primary, ProcedureBody, ProcedureSpec,
+    Sign, Source, Spec, Statement, Sum, Symbol, Term, Variable, Word,
 };
-pub use units::read_source;
+pub use names::{KeyTable, key_of};
+pub use sources::reading_of;

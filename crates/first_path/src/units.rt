@@ -133,7 +133,7 @@ fn package_body(alloc: Global, rest: &mut VecDeque<Symbol>) -> Result<PackageBod
 }
 
 /// Reads a whole source.
-pub fn read_source(alloc: Global, symbols: VecDeque<Symbol>) -> Result<Source, ReadFault>
+pub fn source(alloc: Global, symbols: VecDeque<Symbol>) -> Result<Source, ReadFault>
     ensures ok { IfOk result (λ s. symbols.items ≡ spelled s) }
     ensures err { IfErr result (λ f. Denies f ((s : Source) → symbols.items ≡ spelled s → ⊥)) }
 {

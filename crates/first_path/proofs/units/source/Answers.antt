@@ -2,7 +2,7 @@ use Rattle.std.proofs.Common.{◌≡◌, ◌∙◌, [], sym, true}
 use Rattle.first_path.specs.Spelling.{package_body_then}
 use Rattle.first_path.proofs.Denied.{passed}
 use Rattle.first_path.proofs.One.{one_spec, one_package_body}
-use Rattle.first_path.proofs.units.read_source.Goals as goal
+use Rattle.first_path.proofs.units.source.Goals as goal
 
 pub returns-in_err-body-clause-err : goal.returns-in_err-body-clause-err
 returns-in_err-body-clause-err c =
