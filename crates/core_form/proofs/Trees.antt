@@ -1,5 +1,5 @@
 -- A node's tree is made of its children's trees.
-use Rattle.std.proofs.Common.{◌≡◌, ℕ, zero, suc, ◌+◌, ◌<◌, ◌≤◌, List, [], ◌∷◌, Option, Some, None, refl, ap, ◌∙◌, arith}
+use Rattle.std.proofs.Common.{◌≡◌, ℕ, zero, suc, ◌<◌, List, [], ◌∷◌, Option, Some, None, refl, ap, ◌∙◌, arith}
 use Rattle.std.specs.Prelude.{slice_get}
 use Rattle.std.proofs.lemmas.List.Elements.{All-head, All-tail}
 use Rattle.spark_base.specs.declared.numbers.StmtNo.{StmtNo}
@@ -7,7 +7,7 @@ use Rattle.spark_base.specs.declared.numbers.ExprNo.{ExprNo}
 use Rattle.core_form.specs.declared.code.Place.{Place}
 use Rattle.core_form.specs.declared.code.CoreStmt.{CoreStmt}
 use Rattle.core_form.specs.declared.code.CoreExpr.{CoreExpr}
-use Rattle.core_form.specs.Code.{Expr, Exprs, Code, exprs_at, spot_at, expr_at, codes_at, code_at, expr_within, expr_of, code_within, code_of}
+use Rattle.core_form.specs.Code.{Expr, Code, exprs_at, spot_at, expr_at, codes_at, code_at, expr_within, expr_of, code_within, code_of}
 use Rattle.core_form.specs.Fine.{ExprsBelow, StmtsBelow, PlaceBelow, IsFineExpr, IsFineStmt, AreFineExprs, AreFineStmts}
 
 -- two readings of the children that agree below a number, at what is below it

@@ -1,7 +1,6 @@
 -- What a well-formed program is: numbers are in range, a child's number is smaller than its node's, and the code of a
 -- body names no leaf of another body.
-use Rattle.std.specs.Prelude.{◌≡◌, ℕ, ◌+◌, ◌^◌, ◌<◌, ◌≤◌, List, [], ◌∷◌, All, Option, Some, None, IfSome, slice_get, length}
-use Rattle.spark_base.specs.declared.numbers.BodyNo.{BodyNo}
+use Rattle.std.specs.Prelude.{◌≡◌, ℕ, ◌+◌, ◌^◌, ◌<◌, ◌≤◌, List, All, Option, Some, None, IfSome, slice_get, length}
 use Rattle.spark_base.specs.declared.numbers.ExprNo.{ExprNo}
 use Rattle.spark_base.specs.declared.numbers.StmtNo.{StmtNo}
 use Rattle.core_form.specs.declared.code.CoreExpr.{CoreExpr}
@@ -12,14 +11,11 @@ use Rattle.core_form.specs.declared.contract.DependsPair.{DependsPair}
 use Rattle.core_form.specs.declared.program.Body.{Body}
 use Rattle.core_form.specs.declared.program.Home.{Home}
 use Rattle.core_form.specs.declared.program.Item.{Item}
-use Rattle.core_form.specs.declared.program.Object.{Object}
-use Rattle.core_form.specs.declared.program.Package.{Package}
 use Rattle.core_form.specs.declared.program.PartOf.{PartOf}
 use Rattle.core_form.specs.declared.program.Constituent.{Constituent}
 use Rattle.core_form.specs.declared.program.Program.{Program}
 use Rattle.core_form.specs.declared.program.Sharing.{Sharing}
 use Rattle.core_form.specs.declared.program.StateDef.{StateDef}
-use Rattle.core_form.specs.declared.program.TaskUnit.{TaskUnit}
 use Rattle.core_form.specs.declared.program.Var.{Var}
 use Rattle.core_form.specs.Code.{Expr, Exprs, Spot, Code, Constant, Load, Operation, Choice, Listed, Checked, Nothing, And, At, Skip, Then, Assign, Clear, Branch, Repeat, Exit, Called, Guard, Delay, ReadClock, Stop, code_of}
 

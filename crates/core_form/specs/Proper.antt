@@ -1,5 +1,5 @@
 -- What lowering promises beside a well-formed program. Without it, laws on runs are false.
-use Rattle.std.specs.Prelude.{◌≡◌, ℕ, ◌+◌, ◌<◌, ◌≤◌, ◌↔◌, Bool, true, List, [], ◌∷◌, Option, Some, None, IfSome, slice_get, length, IsTrue}
+use Rattle.std.specs.Prelude.{◌≡◌, ℕ, ◌+◌, ◌<◌, ◌≤◌, ◌↔◌, Bool, [], Option, Some, None, slice_get, IsTrue}
 use Rattle.core_form.specs.declared.program.Body.{Body}
 use Rattle.core_form.specs.declared.program.BodyKind.{BodyKind}
 use Rattle.core_form.specs.declared.program.Home.{Home}
