@@ -1,6 +1,7 @@
 //! The first path: one package with its variables and one procedure of assignments.
 #![tactic(auto)]
 
+mod fit;
 mod global;
 mod names;
 mod reading;
