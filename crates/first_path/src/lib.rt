@@ -3,6 +3,7 @@
 
 mod fit;
 mod global;
+mod known;
 mod names;
 mod reading;
 mod source;
