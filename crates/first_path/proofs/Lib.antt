@@ -1,3 +1,4 @@
+pub mod Alls
 pub mod Denied
 pub mod Inside
 pub mod Lists

@@ -1,7 +1,9 @@
 //! The first path: one package with its variables and one procedure of assignments.
 #![tactic(auto)]
 
+mod fit;
 mod global;
+mod known;
 mod names;
 mod reading;
 mod source;
