@@ -1,6 +1,7 @@
 -- The names of a part are those of variables.
 use Rattle.std.specs.Prelude.{◌≡◌, ℕ, true, List, [], ◌∷◌}
-use Rattle.first_path.specs.Conditions.{key, is_known}
+use Rattle.first_path.specs.Conditions.{key, is_known, words_of}
+use Rattle.first_path.specs.declared.source.Entry.{Entry}
 use Rattle.first_path.specs.declared.source.Primary.{Primary}
 use Rattle.first_path.specs.declared.source.Primary.TheVariants as primary
 use Rattle.first_path.specs.declared.source.Statement.{Statement}
@@ -29,3 +30,6 @@ KnownSum keys s = KnownPrimary keys s.first × Each (KnownTerm keys) s.more
 abbrev pub KnownStatement : List (List ℕ) → Statement → Type 0
 KnownStatement keys statement.Null = Unit {0}
 KnownStatement keys (statement.Assign target value) = KnownWord keys target × KnownSum keys value
+
+abbrev pub KnownEntry : List (List ℕ) → Entry → Type 0
+KnownEntry keys e = Each (KnownWord keys) (words_of e.names)

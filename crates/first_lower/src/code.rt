@@ -7,14 +7,13 @@ ghost use Rattle.first_lower.specs.Lowered.{leaf_of, whole, checked, low_sum, lo
 ghost use Rattle.first_lower.specs.Steps.{Adds, Lists, codes_before};
 
 use crate::exprs::{add_checked, add_integer, whole_leaf, whole_place};
-use crate::table::KeyTable;
 use core_form::{CoreExpr, CoreStmt, Nodes};
-use first_path::{Block, Statement, Sum, Variable, Word};
+use first_path::{Block, KeyTable, Statement, Sum, Variable, Word};
 use spark_base::{Items, LeafNo, NoMemory, StmtNo};
 use std::alloc::Global;
 
 /// Adds statements as one sequence.
-fn add_sequence(nodes: &mut Nodes, list: Items<StmtNo>) -> Result<StmtNo, NoMemory>
+pub fn add_sequence(nodes: &mut Nodes, list: Items<StmtNo>) -> Result<StmtNo, NoMemory>
     requires fine { AreFineNodes nodes.old }
     requires within { Each (λ s. s.0 < length nodes.old.stmts) list }
     ensures adds { Adds nodes.old nodes.new }

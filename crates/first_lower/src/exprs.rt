@@ -6,9 +6,8 @@ ghost use Rattle.first_lower.specs.Known.{KnownWord, KnownPrimary, KnownTerm, Kn
 ghost use Rattle.first_lower.specs.Lowered.{leaf_of, whole, checked, operator_of, low_primary, low_term, low_terms, low_sum};
 ghost use Rattle.first_lower.specs.Steps.{Adds, IsWhole};
 
-use crate::table::{KeyTable, key_of};
+use first_path::{Adding, KeyTable, Primary, Sum, Term, Word, key_of};
 use core_form::{CoreExpr, CoreOp, Nodes, Place};
-use first_path::{Adding, Primary, Sum, Term, Word};
 use spark_base::{ExprNo, Items, LeafNo, NoMemory};
 use std::alloc::Global;
 

@@ -2,5 +2,7 @@
 #![tactic(auto)]
 
 mod code;
+mod contract;
 mod exprs;
-mod table;
+mod program;
+mod tables;

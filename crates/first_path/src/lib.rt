@@ -16,5 +16,6 @@ pub use source::{
     Adding, Block, Entry, GlobalForm, Names, PackageBody, Primary, ProcedureBody, ProcedureSpec,
     Sign, Source, Spec, Statement, Sum, Symbol, Term, Variable, Word,
 };
+pub use fit::mode_of;
 pub use names::{KeyTable, key_of};
 pub use sources::reading_of;
