@@ -47,6 +47,7 @@ has_within row v h = elim (cases_lt v (length row)) [
 -- the row of the same flow, in the same leaves
 pub row_same : (r : BodyRow) (S T : ℕ → Type 0) (F G : Flow) → ((v : ℕ) → S v ↔ T v) → IsSame F G → IsRow r (row_of S F) → IsRow r (row_of T G)
 row_same r S T F G t h w = record {
+  leaves = λ v. grind (arith, w.leaves v, t v);
   returns = grind (arith, w.returns, h.can);
   reads = λ v. grind (arith, w.reads v, t v, h.reads v);
   writes = λ v. grind (arith, w.writes v, t v, h.writes v);

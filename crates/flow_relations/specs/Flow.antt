@@ -226,6 +226,8 @@ pub record IsSame (f g : Flow) : Type 0 where
 
 -- What is known of a body, in names that stand outside it too.
 pub record Summary : Type 1 where
+  -- the leaves of which it speaks
+  pub leaves : ℕ → Type 0
   -- it may return
   pub returns : Type 0
   -- leaves whose entry value may be read
@@ -244,6 +246,7 @@ by_return f v w = f.can Next × f.can Returns × f.decides v × f.writes w
 -- the row of a flow, as far as it speaks of the named leaves
 abbrev pub row_of : (ℕ → Type 0) → Flow → Summary
 row_of named f = record {
+  leaves = named;
   returns = f.can Next ⊎ f.can Returns;
   reads = λ v. named v × f.reads v;
   writes = λ v. named v × f.writes v;

@@ -73,6 +73,7 @@ ends_tell false kept dep = []
 -- The row of a body
 
 pub record AreRowsSized (n : ℕ) (r : BodyRow) : Type 0 where
+  pub leaves : length r.leaves ≡ n
   pub reads : length r.reads ≡ n
   pub writes : length r.writes ≡ n
   pub keeps : length r.keeps ≡ n
@@ -80,6 +81,7 @@ pub record AreRowsSized (n : ℕ) (r : BodyRow) : Type 0 where
 
 -- the rows tell these facts, exactly
 pub record IsRow (r : BodyRow) (s : Summary) : Type 0 where
+  pub leaves : Tells r.leaves s.leaves
   pub returns : IsTrue r.returns ↔ s.returns
   pub reads : Tells r.reads s.reads
   pub writes : Tells r.writes s.writes

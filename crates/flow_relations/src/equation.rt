@@ -18,6 +18,8 @@ use std::alloc::Global;
 /// its result's. A row has one place more than there are leaves, which is never set.
 #[derive(Drop)]
 pub struct BodyRow {
+    /// The leaves of which it speaks.
+    pub leaves: Row,
     /// Whether it may return.
     pub returns: bool,
     /// Leaves whose entry value may be read.
@@ -171,10 +173,10 @@ fn row_leaves(alloc: Global, program: &Program, body: BodyNo) -> Result<Row, NoM
 }
 
 // The row that facts tell, in some leaves.
-fn row_from(alloc: Global, facts: Facts, named: &Row) -> Result<BodyRow, NoMemory>
-    requires size { AreSized (length named.now) facts }
-    ensures size { IfOk result (λ r. AreRowsSized (length named.now) r) }
-    ensures row { IfOk result (λ r. IsRow r (row_of (Has named.now) (told facts))) }
+fn row_from(alloc: Global, facts: Facts, named: Row) -> Result<BodyRow, NoMemory>
+    requires size { AreSized (length named) facts }
+    ensures size { IfOk result (λ r. AreRowsSized (length named) r) }
+    ensures row { IfOk result (λ r. IsRow r (row_of (Has named) (told facts))) }
 {
     let Facts {
         mut reads,
@@ -185,11 +187,12 @@ fn row_from(alloc: Global, facts: Facts, named: &Row) -> Result<BodyRow, NoMemor
     } = facts;
     let mut keeps = Row::new(alloc, reads.size())?;
     kept.diagonal_into(&mut keeps);
-    keeps.intersect_into(named);
-    reads.intersect_into(named);
-    writes.intersect_into(named);
-    dep.restrict(named);
+    keeps.intersect_into(&named);
+    reads.intersect_into(&named);
+    writes.intersect_into(&named);
+    dep.restrict(&named);
     Ok(BodyRow {
+        leaves: named,
         returns: next,
         reads,
         writes,
@@ -216,5 +219,5 @@ pub fn row_of_body(alloc: Global, program: &Program, body: BodyNo) -> Result<Bod
         &mut room,
     );
     let named = row_leaves(alloc, program, body)?;
-    row_from(alloc, facts, &named)
+    row_from(alloc, facts, named)
 }

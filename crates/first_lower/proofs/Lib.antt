@@ -1,0 +1,4 @@
+pub mod Adding
+pub mod Found
+pub mod Items
+pub mod Listing

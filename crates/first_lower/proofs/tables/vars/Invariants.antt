@@ -1,0 +1,7 @@
+use Rattle.std.proofs.Common.{◌≡◌, ◌++◌, drop}
+use Rattle.first_lower.specs.Lowered.{each_from, low_var}
+use Rattle.first_lower.proofs.tables.vars.Given as goal
+
+-- the rows so far, and those of what is left, are those of all
+abbrev pub invariant-loop-i : goal.invariant-loop-i
+invariant-loop-i l = l.list ++ each_from (low_var l.home) l.i (drop l.i l.variables) ≡ each_from (low_var l.home) 0 l.variables

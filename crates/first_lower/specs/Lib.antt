@@ -1,0 +1,4 @@
+pub mod Assembled
+pub mod Known
+pub mod Lowered
+pub mod Steps

@@ -1,0 +1,6 @@
+pub mod Alls
+pub mod Denied
+pub mod Inside
+pub mod Lists
+pub mod Maps
+pub mod One

@@ -1,0 +1,10 @@
+use Rattle.std.proofs.Common.{◌≡◌, length}
+use Rattle.first_path.specs.Spelling.{each_then, variable_then}
+use Rattle.first_path.proofs.units.variables.Given as goal
+
+-- what was read, with what is left, is what stood there
+abbrev pub invariant-each : goal.invariant-each
+invariant-each l = l.initial.rest.items ≡ each_then variable_then l.list l.rest.items
+
+abbrev pub decreases-each : goal.decreases-each
+decreases-each l = length l.rest.items

@@ -1,0 +1,5 @@
+pub mod Begins
+pub mod Checks
+pub mod Conditions
+pub mod Spelling
+pub mod Symbols

@@ -1,0 +1,146 @@
+use spark_base::{Bytes, Items, Span};
+
+/// A reserved word or mark of the first path.
+#[derive(Clone, Copy, Debug, PartialEq, Eq)]
+pub enum Sign {
+    Package,
+    Is,
+    Procedure,
+    With,
+    Null,
+    End,
+    Body,
+    Begin,
+    Open,
+    Close,
+    Comma,
+    Colon,
+    Semicolon,
+    Becomes,
+    Arrow,
+    Plus,
+    Minus,
+}
+
+/// A word, as it is written, and its place.
+#[derive(Debug, Drop)]
+pub struct Word {
+    pub written: Bytes,
+    pub span: Span,
+}
+
+/// A token, as far as the grammar tells it from others.
+#[derive(Debug, Drop)]
+pub enum Symbol {
+    Sign(Sign),
+    Word(Word),
+    /// A number of digits alone, at most 2,147,483,647.
+    Number(u32),
+    Other,
+}
+
+/// `NAME : Integer := NUMBER;`
+#[derive(Debug, Drop)]
+pub struct Variable {
+    pub name: Word,
+    pub mark: Word,
+    pub value: u32,
+}
+
+#[derive(Debug, Drop)]
+pub enum Primary {
+    Name(Word),
+    Number(u32),
+}
+
+#[derive(Clone, Copy, Debug, PartialEq, Eq)]
+pub enum Adding {
+    Plus,
+    Minus,
+}
+
+/// An operator, and what it adds or takes away.
+#[derive(Debug, Drop)]
+pub struct Term {
+    pub operator: Adding,
+    pub operand: Primary,
+}
+
+#[derive(Debug, Drop)]
+pub struct Sum {
+    pub first: Primary,
+    pub more: Items<Term>,
+}
+
+#[derive(Debug, Drop)]
+pub enum Statement {
+    Null,
+    Assign { target: Word, value: Sum },
+}
+
+/// One statement at least.
+#[derive(Debug, Drop)]
+pub struct Block {
+    pub first: Statement,
+    pub more: Items<Statement>,
+}
+
+#[derive(Debug, Drop)]
+pub enum Names {
+    Bare(Word),
+    /// Names in parentheses.
+    Listed { first: Word, more: Items<Word> },
+}
+
+/// `MODE => NAMES`
+#[derive(Debug, Drop)]
+pub struct Entry {
+    pub mode: Word,
+    pub names: Names,
+}
+
+/// The definition of a Global.
+#[derive(Debug, Drop)]
+pub enum GlobalForm {
+    Null,
+    Entries { first: Entry, more: Items<Entry> },
+}
+
+/// `procedure NAME with Global => ..;`
+#[derive(Debug, Drop)]
+pub struct ProcedureSpec {
+    pub name: Word,
+    pub aspect: Word,
+    pub global: GlobalForm,
+}
+
+/// The package spec.
+#[derive(Debug, Drop)]
+pub struct Spec {
+    pub package: Word,
+    pub variables: Items<Variable>,
+    pub procedure: ProcedureSpec,
+    pub end: Option<Word>,
+}
+
+#[derive(Debug, Drop)]
+pub struct ProcedureBody {
+    pub name: Word,
+    pub block: Block,
+    pub end: Option<Word>,
+}
+
+/// The package body.
+#[derive(Debug, Drop)]
+pub struct PackageBody {
+    pub package: Word,
+    pub procedure: ProcedureBody,
+    pub end: Option<Word>,
+}
+
+/// A whole source.
+#[derive(Debug, Drop)]
+pub struct Source {
+    pub spec: Spec,
+    pub body: PackageBody,
+}
