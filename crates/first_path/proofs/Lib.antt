@@ -6,3 +6,4 @@ pub mod Items
 pub mod Lists
 pub mod Maps
 pub mod One
+pub mod Parts

@@ -66,7 +66,11 @@ fn knows_statement(alloc: Global, known: &KeyTable, statement: &Statement) -> Re
 }
 
 /// Whether the names of statements are known.
-fn knows_statements(alloc: Global, known: &KeyTable, statements: &[Statement]) -> Result<bool, NoMemory>
+fn knows_statements(
+    alloc: Global,
+    known: &KeyTable,
+    statements: &[Statement],
+) -> Result<bool, NoMemory>
     ensures { IfOk result (λ b. b ≡ are_known known.now (flat_map statement_words statements.now)) }
 {
     for statement in statements {
@@ -88,7 +92,12 @@ pub fn knows_block(alloc: Global, known: &KeyTable, block: &Block) -> Result<boo
 }
 
 /// Adds a name of a Global, if it is known and new to the table: false says that it is not.
-fn add_item(alloc: Global, known: &KeyTable, seen: &mut KeyTable, word: &Word) -> Result<bool, NoMemory>
+fn add_item(
+    alloc: Global,
+    known: &KeyTable,
+    seen: &mut KeyTable,
+    word: &Word,
+) -> Result<bool, NoMemory>
     ensures item { IfOk result (λ b. b ≡ are_items known.now seen.old (word.now ∷ [])) }
     ensures seen { IfOk result (λ b. IsTrue b → seen.new ≡ seen.old ++ key word.now ∷ []) }
 {
@@ -100,7 +109,12 @@ fn add_item(alloc: Global, known: &KeyTable, seen: &mut KeyTable, word: &Word) -
 }
 
 /// Adds further names of an entry.
-fn add_items(alloc: Global, known: &KeyTable, seen: &mut KeyTable, words: &[Word]) -> Result<bool, NoMemory>
+fn add_items(
+    alloc: Global,
+    known: &KeyTable,
+    seen: &mut KeyTable,
+    words: &[Word],
+) -> Result<bool, NoMemory>
     ensures items { IfOk result (λ b. b ≡ are_items known.now seen.old words.now) }
     ensures seen { IfOk result (λ b. IsTrue b → seen.new ≡ seen.old ++ map key words.now) }
 {
@@ -113,7 +127,12 @@ fn add_items(alloc: Global, known: &KeyTable, seen: &mut KeyTable, words: &[Word
 }
 
 /// Adds the names of an entry.
-fn add_names(alloc: Global, known: &KeyTable, seen: &mut KeyTable, names: &Names) -> Result<bool, NoMemory>
+fn add_names(
+    alloc: Global,
+    known: &KeyTable,
+    seen: &mut KeyTable,
+    names: &Names,
+) -> Result<bool, NoMemory>
     ensures items { IfOk result (λ b. b ≡ are_items known.now seen.old (words_of names.now)) }
     ensures seen { IfOk result (λ b. IsTrue b → seen.new ≡ seen.old ++ map key (words_of names.now)) }
 {
@@ -130,7 +149,12 @@ fn add_names(alloc: Global, known: &KeyTable, seen: &mut KeyTable, names: &Names
 
 /// Adds the names of further entries.
 #[tactic(auto, using(crate::proofs::Items::items_step))]
-fn add_entries(alloc: Global, known: &KeyTable, seen: &mut KeyTable, entries: &[Entry]) -> Result<bool, NoMemory>
+fn add_entries(
+    alloc: Global,
+    known: &KeyTable,
+    seen: &mut KeyTable,
+    entries: &[Entry],
+) -> Result<bool, NoMemory>
     ensures items { IfOk result (λ b. b ≡ are_items known.now seen.old (flat_map (λ e. words_of e.names) entries.now)) }
 {
     for entry in entries {

@@ -1,4 +1,4 @@
-use Rattle.std.proofs.Common.{ap, sym, ◌∙◌}
+use Rattle.std.proofs.Common.{ap, ◌∙◌}
 use Rattle.std.specs.List.{flat_map}
 use Rattle.std.proofs.Common.{drop, ◌+◌}
 use Rattle.first_path.specs.Checks.{are_items}
@@ -17,7 +17,7 @@ returns-then-not-branch c = record {
 pub loop-entry-preserved : goal.loop-entry-preserved
 loop-entry-preserved c =
     ap (λ seen. are_items c.args.known.now seen (flat_map (λ (e : Entry). words_of e.names) (drop (c.loop-entry.entry-index + 1) c.args.entries.now)))
-        (c.in_ok-add_names.ensures.seen c.if-not-branch.false)
+    (c.in_ok-add_names.ensures.seen c.if-not-branch.false)
     ∙ goes_on _ _ _ _ _
-      (items_step c.args.known.now c.loop-entry.seen c.args.entries.now c.loop-entry.entry-index c.entry-item.result c.loop-entry-test.true c.entry-item.is)
-      c.in_ok-add_names.ensures.items c.if-not-branch.false c.loop-entry.invariant
+    (items_step c.args.known.now c.loop-entry.seen c.args.entries.now c.loop-entry.entry-index c.entry-item.result c.loop-entry-test.true c.entry-item.is)
+    c.in_ok-add_names.ensures.items c.if-not-branch.false c.loop-entry.invariant
