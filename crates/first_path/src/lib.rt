@@ -11,6 +11,8 @@ mod source;
 mod sources;
 mod steps;
 mod symbols;
+#[cfg(test)]
+mod tests;
 mod units;
 
 pub use fit::mode_of;
