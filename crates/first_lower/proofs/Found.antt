@@ -8,7 +8,7 @@ within_step : (b rest : Bool) (n m : ℕ) → (rest ≡ true → n < m) → (b |
 within_step true rest n m k h = omega arith
 within_step false rest n m k h = let l : n < m = k h in omega arith
 
-within : {A : Type 0} (p : A → Bool) (xs : List A) → list_any p xs ≡ true → position_or_len p xs < length xs
+pub within : {A : Type 0} (p : A → Bool) (xs : List A) → list_any p xs ≡ true → position_or_len p xs < length xs
 within p [] h = absurd cc
 within p (x ∷ xs) h = within_step (p x) (list_any p xs) (position_or_len p xs) (length xs) (within p xs) h
 
