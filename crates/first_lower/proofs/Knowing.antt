@@ -10,8 +10,6 @@ use Rattle.first_path.specs.declared.source.Source.{Source}
 use Rattle.first_path.specs.declared.source.Statement.{Statement}
 use Rattle.first_path.specs.declared.source.Statement.TheVariants as statement
 use Rattle.first_path.specs.declared.source.Sum.{Sum}
-use Rattle.first_path.specs.declared.source.Term.{Term}
-use Rattle.first_path.specs.declared.source.Word.{Word}
 use Rattle.first_lower.specs.Known.{Each, KnownWord, KnownPrimary, KnownTerm, KnownSum, KnownStatement, KnownEntry}
 
 module _ {X : Type 0} (P : X → Type 0) where
@@ -38,10 +36,11 @@ module _ (keys : List (List ℕ)) where
   known_primary (primary.Number n) h = tt
 
   known_sum : (s : Sum) → All (KnownWord keys) (sum_words s) → KnownSum keys s
-  known_sum s h =
-      (known_primary s.first (All-front (KnownWord keys) (primary_words s.first) (flat_map (λ t. primary_words t.operand) s.more) h),
-       each_part (KnownWord keys) (λ t. primary_words t.operand) (KnownTerm keys) (λ t k. known_primary t.operand k) s.more
-       (All-back (KnownWord keys) (primary_words s.first) (flat_map (λ t. primary_words t.operand) s.more) h))
+  known_sum s h = (
+    known_primary s.first (All-front (KnownWord keys) (primary_words s.first) (flat_map (λ t. primary_words t.operand) s.more) h),
+    each_part (KnownWord keys) (λ t. primary_words t.operand) (KnownTerm keys) (λ t k. known_primary t.operand k) s.more
+        (All-back (KnownWord keys) (primary_words s.first) (flat_map (λ t. primary_words t.operand) s.more) h),
+  )
 
   known_statement : (s : Statement) → All (KnownWord keys) (statement_words s) → KnownStatement keys s
   known_statement statement.Null h = tt

@@ -1,6 +1,5 @@
 -- An assembled program is the lowered source.
 use Rattle.std.proofs.Common.{◌≡◌, ℕ, List, ap, ◌∙◌}
-use Rattle.core_form.specs.Code.{code_of}
 use Rattle.core_form.specs.declared.build.Nodes.{Nodes}
 use Rattle.core_form.specs.declared.program.Program.{Program}
 use Rattle.first_path.specs.Conditions.{variable_keys, statements_of}

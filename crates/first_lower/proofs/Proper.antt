@@ -1,5 +1,5 @@
 -- An assembled program is proper.
-use Rattle.std.proofs.Common.{◌≡◌, ◌↔◌, ℕ, ◌+◌, ◌<◌, ◌≤◌, List, [], ◌∷◌, Some, All, length, refl, ap, sym, ◌∙◌, arith}
+use Rattle.std.proofs.Common.{◌≡◌, ◌↔◌, ℕ, ◌+◌, ◌<◌, ◌≤◌, List, [], Some, All, length, refl, ap, sym, ◌∙◌, arith}
 use Rattle.std.specs.Prelude.{slice_get}
 use Rattle.core_form.specs.Code.{code_of}
 use Rattle.core_form.specs.Fine.{home_of}
@@ -24,7 +24,7 @@ cells_through : (p : Program) (leaf : ℕ) (l : Leaf) → slice_get p.leaves lea
 cells_through p leaf l is = rw (is, cells_of)
 
 module _ (s : Source) (keys : List (List ℕ)) (nodes : Nodes) (r : Roots) (p : Program)
-         (a : IsAssembled s keys nodes r p) (roots : HasRoots s keys nodes r) (same : length keys ≡ length s.spec.variables) where
+    (a : IsAssembled s keys nodes r p) (roots : HasRoots s keys nodes r) (same : length keys ≡ length s.spec.variables) where
   -- a variable and its leaf have one number
   leaves_agree : (leaf v : ℕ) (l : Leaf) (var : Var) → slice_get p.leaves leaf ≡ Some l → slice_get p.vars v ≡ Some var → (l.var.0 ≡ v) ↔ ((var.«from».0 ≤ leaf) × (leaf < var.«from».0 + var.count))
   leaves_agree leaf v l var is is' =

@@ -1,13 +1,13 @@
 -- An assembled program is well formed.
-use Rattle.std.proofs.Common.{◌≡◌, ℕ, ◌+◌, ◌<◌, ◌≤◌, Bool, true, false, List, [], ◌∷◌, ◌++◌, Some, All, IfSome, map, length, refl, ap, sym, ◌∙◌, arith}
+use Rattle.std.proofs.Common.{◌≡◌, ℕ, ◌<◌, Bool, true, false, List, [], ◌∷◌, Some, All, IfSome, map, length, ap, sym, ◌∙◌, arith}
 use Rattle.std.specs.Prelude.{slice_get}
 use Rattle.std.specs.List.{flat_map}
 use Rattle.std.proofs.lemmas.List.Elements.{All-nil, All-cons, All-append, All-same}
 use Rattle.spark_base.specs.declared.numbers.BodyNo.{BodyNo}
 use Rattle.spark_base.specs.declared.numbers.StmtNo.{StmtNo}
 use Rattle.core_form.specs.Added.{AreFineNodes}
-use Rattle.core_form.specs.Code.{Code, code_of}
-use Rattle.core_form.specs.Fine.{CodeIn, HasFineNodes, IsSeenIn, IsFineBody, IsFineContract, IsFineItem, IsFineVar, IsFineState, IsFinePartOf, IsFineConstituent, IsWellFormed, home_of}
+use Rattle.core_form.specs.Code.{code_of}
+use Rattle.core_form.specs.Fine.{CodeIn, HasFineNodes, IsSeenIn, IsFineBody, IsFineItem, IsFineVar, IsFineState, IsFinePartOf, IsFineConstituent, IsWellFormed, home_of}
 use Rattle.core_form.specs.declared.build.Nodes.{Nodes}
 use Rattle.core_form.specs.declared.contract.GlobalItem.{GlobalItem}
 use Rattle.core_form.specs.declared.contract.Mode.{Mode}
@@ -58,7 +58,7 @@ module _ (keys : List (List ℕ)) (n : ℕ) (same : n ≡ length keys) where
       (words_below (mode_of e) (words_of e.names) known.0) (entries_below es known.1)
 
 module _ (s : Source) (keys : List (List ℕ)) (nodes : Nodes) (r : Roots) (p : Program)
-         (a : IsAssembled s keys nodes r p) (roots : HasRoots s keys nodes r) (same : length keys ≡ length s.spec.variables) where
+    (a : IsAssembled s keys nodes r p) (roots : HasRoots s keys nodes r) (same : length keys ≡ length s.spec.variables) where
   -- Each table has a row for each variable
 
   pub length_leaves : length p.leaves ≡ length keys
