@@ -4,6 +4,7 @@
 mod fit;
 mod global;
 mod known;
+mod laws;
 mod meets;
 mod names;
 mod reading;
@@ -16,12 +17,11 @@ mod tests;
 mod units;
 
 pub use fit::mode_of;
+pub use laws::sources_are_one;
 pub use meets::conditions;
 pub use names::{KeyTable, key_of};
 pub use source::{
     Adding, Block, Entry, GlobalForm, Names, PackageBody, Primary, ProcedureBody, ProcedureSpec,
     Sign, Source, Spec, Statement, Sum, Symbol, Term, Variable, Word,
 };
-pub use fit::mode_of;
-pub use names::{KeyTable, key_of};
 pub use sources::reading_of;

@@ -1,60 +1,110 @@
--- The report of sources: the refusals, or else the flow messages.
-use Rattle.std.specs.Prelude.{◌≡◌, ℕ, ◌+◌, List, [], ◌∷◌, ◌++◌, true, false, if◌then◌else◌, nat_lt, length, codes, option_to_list, None, Some}
-use Rattle.std.specs.declared.option.Option.{Option}
-use Rattle.std.specs.Str.{bytes_eq}
-use Rattle.flow_driver.specs.declared.messages.Kind.{Kind}
-use Rattle.flow_driver.specs.declared.messages.Kind.TheVariants as kinds
-use Rattle.flow_driver.specs.declared.messages.Code.{Code}
+-- The report of a source: its refusal, or else the messages of the flow.
+use Rattle.std.specs.Prelude.{◌≡◌, ℕ, ◌+◌, ◌++◌, true, false, List, [], ◌∷◌, Option, Some, None, codes}
+use Rattle.std.specs.List.Sorted.{IsStrictlySortedBy}
+use Rattle.spark_base.specs.declared.numbers.FileNo.{FileNo}
+use Rattle.core_form.specs.declared.contract.Contract.{Contract}
+use Rattle.core_form.specs.declared.program.Body.{Body}
+use Rattle.core_form.specs.declared.program.Program.{Program}
+use Rattle.flow_relations.specs.declared.equation.BodyRow.{BodyRow}
+use Rattle.flow_relations.specs.Equation.{equation}
+use Rattle.flow_relations.specs.Told.{IsRow}
+use Rattle.first_path.specs.declared.source.Source.{Source}
+use Rattle.first_path.specs.Conditions.{MeetsConditions}
+use Rattle.first_path.specs.Symbols.{Spells}
+use Rattle.first_lower.specs.Lowered.{IsLowered}
 use Rattle.flow_driver.specs.declared.messages.Code.TheVariants as code
+use Rattle.flow_driver.specs.declared.messages.Kind.TheVariants as kinds
 use Rattle.flow_driver.specs.declared.messages.Message.{Message}
 use Rattle.flow_driver.specs.declared.report.Report.{Report}
-use Rattle.flow_driver.specs.declared.report.TheConstants.{LIMIT}
+use Rattle.flow_driver.specs.Message.{HaveSame, order}
+use Rattle.flow_driver.specs.MessageTexts.{outside_text}
+use Rattle.flow_driver.specs.GlobalCheck.{global_messages}
 
--- a message at the first byte of a file
-abbrev pub at_front : ℕ → Kind → Code → List ℕ → Message
-at_front file kind which text = record { file = record { 0 = file }; place = record { line = 1; col = 1 }; kind = kind; code = which; text = text }
+-- Readings
 
--- the first file that is too long
-abbrev pub first_long : ℕ → List (List ℕ) → Option ℕ
-first_long file [] = None
-first_long file (source ∷ sources) = if nat_lt LIMIT (length source) then Some file else first_long (file + 1) sources
+-- a source of the first path: it spells one that meets the conditions
+pub record IsFirstPath (bytes : List ℕ) (s : Source) : Type 0 where
+  pub spells : Spells (record { 0 = 0 }) bytes s
+  pub meets : MeetsConditions s
 
--- a toy: the words `ok` and `bad` are the whole language
-abbrev pub refusal_of : ℕ → List ℕ → Option Message
-refusal_of file source =
-    if bytes_eq source (codes "ok") then None else
-    if bytes_eq source (codes "bad") then None else
-    Some (at_front file kinds.Refused code.U01 (codes "\"source\" is outside the subset"))
+-- the program of a source of the first path
+pub record IsProgramOf (bytes : List ℕ) (p : Program) : Type 0 where
+  pub source : Source
+  pub is_first : IsFirstPath bytes source
+  pub lowered : IsLowered source p
 
-abbrev pub flow_message_of : ℕ → List ℕ → Option Message
-flow_message_of file source =
-    if bytes_eq source (codes "bad") then Some (at_front file kinds.Error code.G01 (codes "it is bad")) else None
+-- the reading of a source: its program, or none where it is no source of the first path
+abbrev pub IsReading : List ℕ → Option Program → Type 0
+IsReading bytes (Some p) = IsProgramOf bytes p
+IsReading bytes None = (s : Source) → IsFirstPath bytes s → ⊥
 
-abbrev pub refusals : ℕ → List (List ℕ) → List Message
-refusals file [] = []
-refusals file (source ∷ sources) = option_to_list (refusal_of file source) ++ refusals (file + 1) sources
+-- Messages
 
-abbrev pub flow_messages : ℕ → List (List ℕ) → List Message
-flow_messages file [] = []
-flow_messages file (source ∷ sources) = option_to_list (flow_message_of file source) ++ flow_messages (file + 1) sources
+-- a body is checked by its refined Global where it has one, and else by its Global
+abbrev pub checked_contract : Body → Option Contract
+checked_contract body = elim body.inner [ Some c ↦ Some c | None ↦ body.outer ]
 
--- the report of a file that is too long
-abbrev pub long_report : ℕ → Report
-long_report file = record { messages = at_front file kinds.Refused code.X01 (codes "too long") ∷ []; refused = true }
+-- the messages on a body by the row that it has by its code
+pub record AreChecked (p : Program) (b : ℕ) (body : Body) (c : Contract) (list : List Message) : Type 0 where
+  pub row : BodyRow
+  pub is_row : IsRow row (equation p b)
+  pub list_is : list ≡ global_messages p row body c
 
--- the phases behind reading: where one refuses, the others don't come
-abbrev pub after_parsing : List Message → List (List ℕ) → Report
-after_parsing [] sources = record { messages = flow_messages 0 sources; refused = false }
-after_parsing (m ∷ ms) sources = record { messages = m ∷ ms; refused = true }
+-- the messages on a body: none without a contract
+abbrev pub AreBodyMessages : Program → ℕ → Body → Option Contract → List Message → Type 0
+AreBodyMessages p b body None list = list ≡ []
+AreBodyMessages p b body (Some c) list = AreChecked p b body c list
 
-abbrev pub after_reading : Option ℕ → List (List ℕ) → Report
-after_reading (Some file) sources = long_report file
-after_reading None sources = after_parsing (refusals 0 sources) sources
+-- messages in two parts
+pub record AreJoined (P Q : List Message → Type 0) (list : List Message) : Type 0 where
+  pub first : List Message
+  pub others : List Message
+  pub is_first : P first
+  pub are_others : Q others
+  pub list_is : list ≡ first ++ others
 
--- the report of sources
-unfoldable pub report : List (List ℕ) → Report
-report sources = after_reading (first_long 0 sources) sources
+-- the messages on the bodies from this number on
+abbrev pub AreMessagesFrom : Program → ℕ → List Body → List Message → Type 0
+AreMessagesFrom p b [] list = list ≡ []
+AreMessagesFrom p b (body ∷ bodies) list =
+    AreJoined (AreBodyMessages p b body (checked_contract body)) (AreMessagesFrom p (b + 1) bodies) list
 
--- the sources have this report
+-- the messages of the flow of a program, in order, each once
+pub record AreFlowMessages (p : Program) (list : List Message) : Type 0 where
+  pub found : List Message
+  pub are_found : AreMessagesFrom p 0 p.bodies found
+  pub same : HaveSame list found
+  pub sorted : IsStrictlySortedBy order list
+
+-- Reports
+
+-- the refusal of a source that is outside the first path, at its beginning
+abbrev pub refusal : Message
+refusal = record {
+  file = record { 0 = 0 };
+  place = record { line = 1; col = 1 };
+  code = code.U01;
+  text = outside_text (codes "source");
+  kind = kinds.Refused;
+}
+
+-- the report of a program: the messages of its flow
+pub record IsFlowReport (p : Program) (r : Report) : Type 0 where
+  pub messages : AreFlowMessages p r.messages
+  pub accepted : r.refused ≡ false
+
+abbrev pub IsReportOf : Option Program → Report → Type 0
+IsReportOf None r = r ≡ record { messages = refusal ∷ []; refused = true }
+IsReportOf (Some p) r = IsFlowReport p r
+
+-- a source has this report
+pub record HasReport (bytes : List ℕ) (r : Report) : Type 0 where
+  pub reading : Option Program
+  pub is_reading : IsReading bytes reading
+  pub is_report : IsReportOf reading r
+
+-- the sources have this report: there is one file as yet
 unfoldable pub IsReport : List (List ℕ) → Report → Type 0
-IsReport sources r = r ≡ report sources
+IsReport [] r = ⊥
+IsReport (source ∷ []) r = HasReport source r
+IsReport (source ∷ next ∷ more) r = ⊥

@@ -1,4 +1,4 @@
-ghost use Rattle.std.specs.Prelude.{◌≡◌, ◌⊎◌, ◌≤◌, ◌++◌, ◌↔◌, true, false, IsTrue, map, string_bytes, codes};
+ghost use Rattle.std.specs.Prelude.{◌≡◌, [], ◌∷◌, length, ◌⊎◌, ◌≤◌, ◌++◌, ◌↔◌, true, false, IsTrue, map, string_bytes, codes};
 ghost use Rattle.source_io.specs.Counts.{Rose, Grew};
 ghost use Rattle.flow_driver.specs.Run.{has_errors, verdict, are_accepted, IsCountedBy, IsPrinted, IsPartlyPrinted, GrewByPart, Complains};
 ghost use Rattle.flow_driver.specs.Ending.{Prints, IsStatus, CountsReadFault, CountsWriteFault, AsksNames};
@@ -6,6 +6,7 @@ ghost use Rattle.flow_driver.specs.Ending.{Prints, IsStatus, CountsReadFault, Co
 use crate::messages::{Message, text_of};
 use crate::{ReadFault, Report, read_all, report_of};
 use source_io::{Files, PrintFault, Sink, print_into};
+use spark_base::{Bytes, Items};
 use std::alloc::Global;
 
 /// How a run ended.
@@ -38,8 +39,22 @@ fn verdict(report: &Report) -> u8
     }
 }
 
-/// Reads, analyses and prints.
+/// The only one of some sources.
+fn only_one(sources: Items<Bytes>) -> Bytes
+    requires { length sources ≡ 1 }
+    ensures { sources ≡ result ∷ [] }
+{
+    let mut list = sources.into_vec();
+    match list.pop() {
+        Some(source) => source,
+        None => unreachable!(),
+    }
+}
+
+/// Reads the file of this one name, analyses it and prints.
+#[tactic(auto, unfolding(crate::specs::Report::IsReport))]
 pub fn run<F: Files, K: Sink>(alloc: Global, names: &[String], files: &mut F, out: &mut K) -> Ending
+    requires { length names.now ≡ 1 }
     ensures out { Prints F.told F.gaps K.held (map string_bytes names.now) files.old out.old out.new result }
     ensures status { IsStatus result }
     ensures read { CountsReadFault (F.faults files.old) (F.faults files.new) result }
@@ -51,10 +66,7 @@ pub fn run<F: Files, K: Sink>(alloc: Global, names: &[String], files: &mut F, ou
         Err(ReadFault::Failed { at }) => return Ending::CannotRead { at },
         Err(ReadFault::NoMemory) => return Ending::NoMemory,
     };
-    if sources.len() > u32::MAX as usize {
-        return Ending::NoMemory;
-    }
-    let Ok(report) = report_of(alloc, sources.as_slice()) else {
+    let Ok(report) = report_of(alloc, only_one(sources)) else {
         return Ending::NoMemory;
     };
     let Ok(text) = text_of(alloc, names, report.messages.as_slice()) else {

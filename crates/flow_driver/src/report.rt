@@ -1,152 +1,149 @@
-ghost use Rattle.std.specs.Prelude.{◌≡◌, ◌++◌, ◌<◌, ◌^◌, length, IfOk, OnOk, option_to_list};
-ghost use Rattle.flow_driver.specs.Report.{at_front, first_long, refusal_of, flow_message_of, refusals, flow_messages, long_report, after_parsing, IsReport};
+ghost use Rattle.std.specs.Prelude.{◌≡◌, ◌++◌, ◌∷◌, [], ◌+◌, ◌<◌, ◌^◌, Some, length, slice_get, IfOk, OnOk, IfSome, IfNone};
+ghost use Rattle.std.specs.Option.{option_copied};
+ghost use Rattle.core_form.specs.Fine.{IsWellFormed};
+ghost use Rattle.flow_driver.specs.Report.{IsReading, HasReport, AreFlowMessages, AreBodyMessages, AreMessagesFrom, checked_contract, refusal};
+ghost use Rattle.first_path.specs.Conditions.{MeetsConditions};
+ghost use Rattle.flow_driver.specs.Found.{Appends, IsLoweredFrom};
 
-use crate::messages::{Code, Kind, Message};
-use spark_base::{Bytes, FileNo, Items, NoMemory, Pos};
+use crate::global_check::append_global_messages;
+use crate::message_texts::outside_text;
+use crate::messages::{Code, Kind, Message, ordered};
+use core_form::{Body, Contract, Program};
+use first_lower::lower;
+use first_path::{Source, conditions, reading_of, sources_are_one};
+use flow_relations::row_of_body;
+use spark_base::{BodyNo, Bytes, FileNo, Items, NoMemory, Pos};
 use std::alloc::Global;
 
 /// The most bytes that a file may have.
 pub const LIMIT: u32 = 4_194_304;
 
-/// What the analysis of sources says: the refusals, or else the messages of the flow.
+/// What the analysis of a source says: its refusals, or else the messages of the flow.
 #[derive(Debug, Drop)]
 pub struct Report {
     pub messages: Items<Message>,
     pub refused: bool,
 }
 
-/// A message at the first byte of a file.
-fn front_message(
-    alloc: Global,
-    file: u32,
-    kind: Kind,
-    code: Code,
-    text: &str,
-) -> Result<Message, NoMemory>
-    ensures { IfOk result (λ m. m ≡ at_front file kind code text.now) }
+/// The program of a source that was read, and none where it does not meet the conditions.
+fn lowered(alloc: Global, source: &Source) -> Result<Option<Program>, NoMemory>
+    ensures some { IfOk result (λ r. IfSome r (IsLoweredFrom source.now)) }
+    ensures none { IfOk result (λ r. IfNone r (MeetsConditions source.now → ⊥)) }
 {
-    Ok(Message {
-        file: FileNo(file),
-        place: Pos { line: 1, col: 1 },
-        kind,
-        code,
-        text: Bytes::from_slice(alloc, text.as_bytes())?,
-    })
-}
-
-/// The first file that is too long.
-fn find_long(sources: &[Bytes]) -> Option<u32>
-    requires { length sources.now < 2 ^ 32 }
-    ensures { result ≡ first_long 0 sources.now }
-{
-    let mut file = 0u32;
-    for source in sources {
-        if source.len() > LIMIT as usize {
-            return Some(file);
+    match conditions(alloc, source)? {
+        Some(table) => {
+            let program = lower(alloc, source, &table)?;
+            Ok(Some(program))
         }
-        file += 1;
+        None => Ok(None),
     }
-    None
 }
 
-/// Why a source is refused.
-fn refusal_of(alloc: Global, file: u32, source: &[u8]) -> Result<Option<Message>, NoMemory>
-    ensures { IfOk result (λ m. m ≡ refusal_of file source.now) }
+/// The program of a source, and none where it is outside the first path.
+fn read_program(alloc: Global, bytes: Bytes) -> Result<Option<Program>, NoMemory>
+    ensures reading { IfOk result (λ r. IsReading bytes r) }
+    ensures fine { IfOk result (λ r. IfSome r IsWellFormed) }
 {
-    if source == b"ok".as_slice() || source == b"bad".as_slice() {
-        return Ok(None);
+    sources_are_one();
+    match reading_of(alloc, FileNo(0), bytes)? {
+        Some(source) => {
+            let program = lowered(alloc, &source)?;
+            Ok(program)
+        }
+        None => Ok(None),
     }
-    let text = "\"source\" is outside the subset";
-    let message = front_message(alloc, file, Kind::Refused, Code::U01, text)?;
-    Ok(Some(message))
 }
 
-/// What the flow of a source says.
-fn flow_message_of(alloc: Global, file: u32, source: &[u8]) -> Result<Option<Message>, NoMemory>
-    ensures { IfOk result (λ m. m ≡ flow_message_of file source.now) }
+/// The contract by which a body is checked.
+fn checked_contract(body: &Body) -> Option<&Contract>
+    ensures { option_copied result ≡ checked_contract body.now }
 {
-    if source != b"bad".as_slice() {
-        return Ok(None);
+    match &body.inner {
+        Some(contract) => Some(contract),
+        None => body.outer.as_ref(),
     }
-    let message = front_message(alloc, file, Kind::Error, Code::G01, "it is bad")?;
-    Ok(Some(message))
 }
 
-/// Adds a message, where there is one.
-fn add(list: &mut Items<Message>, message: Option<Message>) -> Result<(), NoMemory>
-    ensures { OnOk result (list.new ≡ list.old ++ option_to_list message) }
+/// Adds the messages on a body.
+fn append_body_messages(
+    alloc: Global,
+    list: &mut Items<Message>,
+    program: &Program,
+    number: BodyNo,
+    body: &Body,
+) -> Result<(), NoMemory>
+    requires fine { IsWellFormed program.now }
+    requires body { slice_get program.now.bodies number.0 ≡ Some body.now }
+    ensures { OnOk result (Appends (AreBodyMessages program.now number.0 body.now (checked_contract body.now)) list.old list.new) }
 {
-    match message {
-        Some(message) => list.push(message),
+    match checked_contract(body) {
+        Some(contract) => {
+            let row = row_of_body(alloc, program, number)?;
+            append_global_messages(alloc, list, program, &row, body, contract)?;
+            Ok(())
+        }
         None => Ok(()),
     }
 }
 
-fn refusals_of(alloc: Global, sources: &[Bytes]) -> Result<Items<Message>, NoMemory>
-    requires { length sources.now < 2 ^ 32 }
-    ensures { IfOk result (λ list. list ≡ refusals 0 sources.now) }
+/// The messages on all bodies, one body after another.
+fn messages_found(alloc: Global, program: &Program) -> Result<Items<Message>, NoMemory>
+    requires { IsWellFormed program.now }
+    ensures { IfOk result (AreMessagesFrom program.now 0 program.now.bodies) }
 {
+    let count = program.bodies.len();
+    if count > u32::MAX as usize {
+        return Err(NoMemory);
+    }
     let mut list = Items::new(alloc);
-    let mut file = 0u32;
-    for source in sources {
-        add(&mut list, refusal_of(alloc, file, source.as_slice())?)?;
-        file += 1;
+    for b in 0..count {
+        append_body_messages(alloc, &mut list, program, BodyNo(b as u32), program.bodies.at(b))?;
     }
     Ok(list)
 }
 
-fn flow_messages_of(alloc: Global, sources: &[Bytes]) -> Result<Items<Message>, NoMemory>
-    requires { length sources.now < 2 ^ 32 }
-    ensures { IfOk result (λ list. list ≡ flow_messages 0 sources.now) }
+/// The messages of the flow of a program, in order, each once.
+fn flow_messages(alloc: Global, program: &Program) -> Result<Items<Message>, NoMemory>
+    requires { IsWellFormed program.now }
+    ensures { IfOk result (AreFlowMessages program.now) }
 {
-    let mut list = Items::new(alloc);
-    let mut file = 0u32;
-    for source in sources {
-        add(&mut list, flow_message_of(alloc, file, source.as_slice())?)?;
-        file += 1;
-    }
-    Ok(list)
+    let found = messages_found(alloc, program)?;
+    let list = ordered(found.into_vec())?;
+    Ok(Items::from_vec(list))
 }
 
-/// The report of a file that is too long.
-fn long_report(alloc: Global, file: u32) -> Result<Report, NoMemory>
-    ensures { IfOk result (λ r. r ≡ long_report file) }
+/// The refusal of a source that is outside the first path.
+fn refusal(alloc: Global) -> Result<Message, NoMemory>
+    ensures { IfOk result (λ m. m ≡ refusal) }
 {
-    let mut messages = Items::new(alloc);
-    messages.push(front_message(alloc, file, Kind::Refused, Code::X01, "too long")?)?;
-    Ok(Report {
-        messages,
-        refused: true,
+    Ok(Message {
+        file: FileNo(0),
+        place: Pos { line: 1, col: 1 },
+        code: Code::U01,
+        text: outside_text(alloc, b"source")?,
+        kind: Kind::Refused,
     })
 }
 
-/// The report of sources that are not too long.
-fn short_report(alloc: Global, sources: &[Bytes]) -> Result<Report, NoMemory>
-    requires { length sources.now < 2 ^ 32 }
-    ensures { IfOk result (λ r. r ≡ after_parsing (refusals 0 sources.now) sources.now) }
+/// The report of a source.
+pub fn report_of(alloc: Global, source: Bytes) -> Result<Report, NoMemory>
+    ensures { IfOk result (HasReport source) }
 {
-    let refusals = refusals_of(alloc, sources)?;
-    if refusals.is_empty() {
-        let messages = flow_messages_of(alloc, sources)?;
-        return Ok(Report {
-            messages,
-            refused: false,
-        });
-    }
-    Ok(Report {
-        messages: refusals,
-        refused: true,
-    })
-}
-
-/// The report of sources. There are less than 2^32 of them.
-#[tactic(auto, unfolding(crate::specs::Report::report, crate::specs::Report::IsReport))]
-pub fn report_of(alloc: Global, sources: &[Bytes]) -> Result<Report, NoMemory>
-    requires { length sources.now < 2 ^ 32 }
-    ensures { IfOk result (λ r. IsReport sources.now r) }
-{
-    match find_long(sources) {
-        Some(file) => long_report(alloc, file),
-        None => short_report(alloc, sources),
+    match read_program(alloc, source)? {
+        Some(program) => {
+            let messages = flow_messages(alloc, &program)?;
+            Ok(Report {
+                messages,
+                refused: false,
+            })
+        }
+        None => {
+            let mut messages = Items::new(alloc);
+            messages.push(refusal(alloc)?)?;
+            Ok(Report {
+                messages,
+                refused: true,
+            })
+        }
     }
 }
