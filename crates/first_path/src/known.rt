@@ -148,7 +148,6 @@ fn add_names(
 }
 
 /// Adds the names of further entries.
-#[tactic(auto, using(crate::proofs::Items::items_step))]
 fn add_entries(
     alloc: Global,
     known: &KeyTable,

@@ -1,6 +1,5 @@
-use Rattle.std.proofs.Common.{ap, ◌∙◌}
+use Rattle.std.proofs.Common.{◌+◌, ◌∙◌, ap, drop}
 use Rattle.std.specs.List.{flat_map}
-use Rattle.std.proofs.Common.{drop, ◌+◌}
 use Rattle.first_path.specs.Checks.{are_items}
 use Rattle.first_path.specs.Conditions.{words_of}
 use Rattle.first_path.specs.declared.source.Entry.{Entry}
