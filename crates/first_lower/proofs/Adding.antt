@@ -1,8 +1,5 @@
 -- Steps one after another.
-use Rattle.std.proofs.Common.{◌≡◌, ℕ, ◌<◌, ◌≤◌, length, ◌∙◌, arith}
-use Rattle.spark_base.specs.declared.numbers.ExprNo.{ExprNo}
-use Rattle.spark_base.specs.declared.numbers.StmtNo.{StmtNo}
-use Rattle.core_form.specs.Added.{AreFineNodes, KeepsTrees}
+use Rattle.std.proofs.Common.{◌∙◌, arith}
 use Rattle.core_form.specs.declared.build.Nodes.{Nodes}
 use Rattle.first_lower.specs.Steps.{Adds}
 

@@ -1,4 +1,10 @@
 pub mod Adding
 pub mod Found
 pub mod Items
+pub mod Knowing
 pub mod Listing
+pub mod Lowering
+pub mod Proper
+pub mod Rows
+pub mod Seen
+pub mod WellFormed

@@ -1,9 +1,7 @@
 -- Statements one after another.
-use Rattle.std.proofs.Common.{◌≡◌, ℕ, ◌+◌, ◌<◌, ◌≤◌, List, [], ◌∷◌, ◌++◌, length, refl, ap, sym, ◌∙◌, arith}
+use Rattle.std.proofs.Common.{◌≡◌, ℕ, ◌<◌, ◌≤◌, List, [], ◌∷◌, ◌++◌, length, refl, ap, ◌∙◌, arith}
 use Rattle.std.proofs.lemmas.List.Elements.{All-cons, All-nil}
-use Rattle.spark_base.specs.declared.numbers.ExprNo.{ExprNo}
 use Rattle.spark_base.specs.declared.numbers.StmtNo.{StmtNo}
-use Rattle.core_form.specs.Added.{AreFineNodes, KeepsTrees}
 use Rattle.core_form.specs.declared.build.Nodes.{Nodes}
 use Rattle.core_form.specs.Code.{Code, Then, Skip, codes_at, code_of}
 use Rattle.core_form.specs.Fine.{StmtsBelow}

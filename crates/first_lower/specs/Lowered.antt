@@ -1,11 +1,10 @@
 -- The core program of a source of the first path.
-use Rattle.std.specs.Prelude.{◌≡◌, ℕ, ◌+◌, ◌<◌, Bool, true, false, List, [], ◌∷◌, ◌++◌, map, Option, Some, None, unwrap_or, position, codes, ℤ, pos, negsuc}
+use Rattle.std.specs.Prelude.{◌≡◌, ℕ, ◌+◌, Bool, true, false, List, [], ◌∷◌, ◌++◌, map, Some, None, unwrap_or, position, codes, pos, negsuc}
 use Rattle.std.specs.List.{flat_map}
 use Rattle.std.specs.Str.{bytes_eq}
-use Rattle.spark_base.specs.declared.numbers.FileNo.{FileNo}
 use Rattle.spark_base.specs.declared.numbers.Span.{Span}
 use Rattle.spark_base.specs.declared.numbers.StmtNo.{StmtNo}
-use Rattle.core_form.specs.Code.{Expr, Exprs, Spot, Code, Constant, Load, Operation, Checked, Nothing, And, At, Skip, Then, Assign, Clear, code_of}
+use Rattle.core_form.specs.Code.{Expr, Spot, Code, Constant, Load, Operation, Checked, Nothing, And, At, Skip, Then, Assign, Clear, code_of}
 use Rattle.core_form.specs.declared.code.CoreOp.{CoreOp}
 use Rattle.core_form.specs.declared.code.CoreOp.TheVariants as op
 use Rattle.core_form.specs.declared.contract.Contract.{Contract}

@@ -76,7 +76,12 @@ fn append_statement(
 }
 
 /// Adds the statements of a list, one after another, as one sequence.
-pub fn add_block(alloc: Global, nodes: &mut Nodes, table: &KeyTable, block: &Block) -> Result<StmtNo, NoMemory>
+pub fn add_block(
+    alloc: Global,
+    nodes: &mut Nodes,
+    table: &KeyTable,
+    block: &Block,
+) -> Result<StmtNo, NoMemory>
     requires fine { AreFineNodes nodes.old }
     requires leaves { nodes.old.leaves ≡ length table.now }
     requires known { Each (KnownStatement table.now) (statements_of block.now) }
@@ -108,8 +113,8 @@ fn append_variable(
 {
     let fresh = nodes.add_stmt(CoreStmt::Fresh(leaf))?;
     list.push(fresh)?;
-    let next = add_initial(alloc, nodes, leaf, variable)?;
-    list.push(next)?;
+    let initial = add_initial(alloc, nodes, leaf, variable)?;
+    list.push(initial)?;
     Ok(())
 }
 
@@ -138,7 +143,11 @@ fn add_initial(
 }
 
 /// Adds the elaboration of the variables, as one sequence.
-pub fn add_variables(alloc: Global, nodes: &mut Nodes, variables: &[Variable]) -> Result<StmtNo, NoMemory>
+pub fn add_variables(
+    alloc: Global,
+    nodes: &mut Nodes,
+    variables: &[Variable],
+) -> Result<StmtNo, NoMemory>
     requires fine { AreFineNodes nodes.old }
     requires leaves { nodes.old.leaves ≡ length variables.now }
     ensures adds { OnOk result (Adds nodes.old nodes.new) }

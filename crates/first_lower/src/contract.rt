@@ -94,7 +94,11 @@ fn append_entries(
 }
 
 /// The items of a Global.
-fn global_items(alloc: Global, table: &KeyTable, global: &GlobalForm) -> Result<Items<GlobalItem>, NoMemory>
+fn global_items(
+    alloc: Global,
+    table: &KeyTable,
+    global: &GlobalForm,
+) -> Result<Items<GlobalItem>, NoMemory>
     requires known { Each (KnownEntry table.now) (entries_of global.now) }
     requires room { length table.now < 2 ^ 32 }
     ensures { IfOk result (λ l. l ≡ flat_map (low_entry table.now) (entries_of global.now)) }

@@ -6,8 +6,8 @@ ghost use Rattle.first_lower.specs.Known.{KnownWord, KnownPrimary, KnownTerm, Kn
 ghost use Rattle.first_lower.specs.Lowered.{leaf_of, whole, checked, operator_of, low_primary, low_term, low_terms, low_sum};
 ghost use Rattle.first_lower.specs.Steps.{Adds, IsWhole};
 
-use first_path::{Adding, KeyTable, Primary, Sum, Term, Word, key_of};
 use core_form::{CoreExpr, CoreOp, Nodes, Place};
+use first_path::{Adding, KeyTable, Primary, Sum, Term, Word, key_of};
 use spark_base::{ExprNo, Items, LeafNo, NoMemory};
 use std::alloc::Global;
 
@@ -119,7 +119,12 @@ fn add_term(
 }
 
 /// Adds the value of a sum.
-fn add_sum(alloc: Global, nodes: &mut Nodes, table: &KeyTable, sum: &Sum) -> Result<ExprNo, NoMemory>
+fn add_sum(
+    alloc: Global,
+    nodes: &mut Nodes,
+    table: &KeyTable,
+    sum: &Sum,
+) -> Result<ExprNo, NoMemory>
     requires fine { AreFineNodes nodes.old }
     requires leaves { nodes.old.leaves ≡ length table.now }
     requires known { KnownSum table.now sum.now }
@@ -150,7 +155,12 @@ pub fn add_integer(nodes: &mut Nodes, value: ExprNo) -> Result<ExprNo, NoMemory>
 }
 
 /// Adds the value of a sum, checked to be an Integer.
-pub fn add_checked(alloc: Global, nodes: &mut Nodes, table: &KeyTable, sum: &Sum) -> Result<ExprNo, NoMemory>
+pub fn add_checked(
+    alloc: Global,
+    nodes: &mut Nodes,
+    table: &KeyTable,
+    sum: &Sum,
+) -> Result<ExprNo, NoMemory>
     requires fine { AreFineNodes nodes.old }
     requires leaves { nodes.old.leaves ≡ length table.now }
     requires known { KnownSum table.now sum.now }

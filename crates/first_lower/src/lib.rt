@@ -6,3 +6,5 @@ mod contract;
 mod exprs;
 mod program;
 mod tables;
+
+pub use program::lower;

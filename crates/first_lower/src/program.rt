@@ -18,7 +18,13 @@ use spark_base::{BodyNo, Bytes, Items, NoMemory, PackageNo, Span, StmtNo};
 use std::alloc::Global;
 
 /// The elaboration of the spec or the body of the package.
-fn elaboration(alloc: Global, home: &Word, at: &Word, code: StmtNo, in_spec: bool) -> Result<Body, NoMemory>
+fn elaboration(
+    alloc: Global,
+    home: &Word,
+    at: &Word,
+    code: StmtNo,
+    in_spec: bool,
+) -> Result<Body, NoMemory>
     ensures { IfOk result (λ b. b ≡ elaboration home.now at.now code in_spec) }
 {
     Ok(Body {
@@ -37,7 +43,12 @@ fn elaboration(alloc: Global, home: &Word, at: &Word, code: StmtNo, in_spec: boo
 }
 
 /// The body of the procedure, with its contract.
-fn procedure(alloc: Global, source: &Source, table: &KeyTable, code: StmtNo) -> Result<Body, NoMemory>
+fn procedure(
+    alloc: Global,
+    source: &Source,
+    table: &KeyTable,
+    code: StmtNo,
+) -> Result<Body, NoMemory>
     requires known { Each (KnownEntry table.now) (entries_of source.now.spec.procedure.global) }
     requires room { length table.now < 2 ^ 32 }
     ensures { IfOk result (λ b. b ≡ low_procedure table.now source.now code) }
@@ -122,7 +133,12 @@ struct Roots {
 }
 
 /// Adds the codes of the bodies.
-fn add_code(alloc: Global, nodes: &mut Nodes, source: &Source, table: &KeyTable) -> Result<Roots, NoMemory>
+fn add_code(
+    alloc: Global,
+    nodes: &mut Nodes,
+    source: &Source,
+    table: &KeyTable,
+) -> Result<Roots, NoMemory>
     requires fine { AreFineNodes nodes.old }
     requires leaves { nodes.old.leaves ≡ length source.now.spec.variables }
     requires table { length table.now ≡ length source.now.spec.variables }
@@ -141,7 +157,12 @@ fn add_code(alloc: Global, nodes: &mut Nodes, source: &Source, table: &KeyTable)
 }
 
 /// The bodies: the elaborations of spec and body, and the procedure.
-fn bodies(alloc: Global, source: &Source, table: &KeyTable, roots: &Roots) -> Result<Items<Body>, NoMemory>
+fn bodies(
+    alloc: Global,
+    source: &Source,
+    table: &KeyTable,
+    roots: &Roots,
+) -> Result<Items<Body>, NoMemory>
     requires known { Each (KnownEntry table.now) (entries_of source.now.spec.procedure.global) }
     requires room { length table.now < 2 ^ 32 }
     ensures { IfOk result (λ l. l ≡ bodies_of source.now table.now roots.now) }

@@ -1,7 +1,7 @@
 -- Tests of a mapped list.
-use Rattle.std.proofs.Common.{◌≡◌, Bool, cond, not, ◌||◌, List, [], ◌∷◌, ℕ, ◌+◌, nat_lt, length, map, position, Some, None, refl, ap, ap₂}
+use Rattle.std.proofs.Common.{◌≡◌, Bool, cond, not, ◌||◌, List, [], ◌∷◌, ◌+◌, nat_lt, map, position, Some, None, refl, ap, ap₂}
 use Rattle.std.proofs.lemmas.List.{length-map}
-use Rattle.std.specs.List.{list_any, prefix_len, position_or_len}
+use Rattle.std.specs.List.{list_any, prefix_len}
 
 module _ {X Y : Type 0} (h : X → Y) where
   pub list_any_map : (p : Y → Bool) (xs : List X) → list_any p (map h xs) ≡ list_any (λ x. p (h x)) xs

@@ -1,4 +1,5 @@
 pub mod Ending
+pub mod GlobalCheck
 pub mod Message
 pub mod MessageTexts
 pub mod Reading

@@ -3,6 +3,7 @@
 
 mod code_order;
 mod driver;
+mod global_check;
 pub mod message_texts;
 pub mod messages;
 mod reading;

@@ -1,4 +1,4 @@
-use Rattle.std.proofs.Common.{◌≡◌, ◌∙◌}
+use Rattle.std.proofs.Common.{◌∙◌}
 use Rattle.core_form.specs.Code.{code_of}
 use Rattle.first_lower.proofs.Listing.{codes_whole, each_below}
 use Rattle.first_lower.proofs.code.add_sequence.Goals as goal

@@ -1,4 +1,3 @@
-use Rattle.std.proofs.Common.{◌≡◌}
 use Rattle.first_lower.specs.Lowered.{leaf_of, whole, checked, low_sum}
 use Rattle.core_form.specs.Code.{Code, Assign}
 use Rattle.first_lower.proofs.Listing.{lists_one}

@@ -1,4 +1,4 @@
-use Rattle.std.proofs.Common.{◌≡◌, ◌<◌, true, length, drop}
+use Rattle.std.proofs.Common.{◌≡◌, ◌<◌, length, drop}
 use Rattle.core_form.specs.Code.{expr_of}
 use Rattle.first_lower.specs.Known.{Each, KnownTerm}
 use Rattle.first_lower.specs.Lowered.{low_terms, low_sum}

@@ -1,4 +1,4 @@
-use Rattle.std.proofs.Common.{IsSome, refl, rules, ap}
+use Rattle.std.proofs.Common.{IsSome, rules, ap}
 use Rattle.first_path.specs.Conditions.{entries_of, key, mode_named}
 use Rattle.first_path.specs.declared.source.Entry.{Entry}
 use Rattle.first_path.proofs.Alls.{all_of}

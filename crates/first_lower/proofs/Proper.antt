@@ -1,0 +1,58 @@
+-- An assembled program is proper.
+use Rattle.std.proofs.Common.{◌≡◌, ◌↔◌, ℕ, ◌+◌, ◌<◌, ◌≤◌, List, [], Some, All, length, refl, ap, sym, ◌∙◌, arith}
+use Rattle.std.specs.Prelude.{slice_get}
+use Rattle.core_form.specs.Code.{code_of}
+use Rattle.core_form.specs.Fine.{home_of}
+use Rattle.core_form.specs.Proper.{IsProper, IsProperCode, MayClear, cells_of}
+use Rattle.core_form.specs.declared.build.Nodes.{Nodes}
+use Rattle.core_form.specs.declared.program.Body.{Body}
+use Rattle.core_form.specs.declared.program.BodyKind.TheVariants as kinds
+use Rattle.core_form.specs.declared.program.Leaf.{Leaf}
+use Rattle.core_form.specs.declared.program.Program.{Program}
+use Rattle.core_form.specs.declared.program.Var.{Var}
+use Rattle.first_path.specs.Conditions.{statements_of}
+use Rattle.first_path.specs.declared.source.Source.{Source}
+use Rattle.first_lower.specs.Assembled.{HasRoots, IsAssembled}
+use Rattle.first_lower.specs.Known.{Each, KnownStatement}
+use Rattle.first_lower.specs.Lowered.{low_leaf, low_var}
+use Rattle.first_lower.specs.declared.program.Roots.{Roots}
+use Rattle.first_lower.proofs.Rows.{All-slice_get, row_here, row_of}
+use Rattle.first_lower.proofs.Seen.{statements_proper, variables_proper}
+use Rattle.first_lower.proofs.WellFormed.{home_is, three_bodies}
+
+cells_through : (p : Program) (leaf : ℕ) (l : Leaf) → slice_get p.leaves leaf ≡ Some l → cells_of p leaf ≡ l.cells
+cells_through p leaf l is = rw (is, cells_of)
+
+module _ (s : Source) (keys : List (List ℕ)) (nodes : Nodes) (r : Roots) (p : Program)
+    (a : IsAssembled s keys nodes r p) (roots : HasRoots s keys nodes r) (same : length keys ≡ length s.spec.variables) where
+  -- a variable and its leaf have one number
+  leaves_agree : (leaf v : ℕ) (l : Leaf) (var : Var) → slice_get p.leaves leaf ≡ Some l → slice_get p.vars v ≡ Some var → (l.var.0 ≡ v) ↔ ((var.«from».0 ≤ leaf) × (leaf < var.«from».0 + var.count))
+  leaves_agree leaf v l var is is' =
+      let row = row_of (low_leaf s.spec.«package») s.spec.variables leaf l (sym (ap (λ rows. slice_get rows leaf) a.leaves) ∙ is) in
+      let other = row_of (low_var s.spec.«package») s.spec.variables v var (sym (ap (λ rows. slice_get rows v) a.vars) ∙ is') in
+      rw (row.1, other.1) (λ e. (omega arith, omega arith), λ h. omega arith)
+
+  scalar : (leaf : ℕ) → leaf < length keys → cells_of p leaf ≡ 1
+  scalar leaf l =
+      let row = row_here (low_leaf s.spec.«package») s.spec.variables leaf (omega arith) in
+      cells_through p leaf (low_leaf s.spec.«package» leaf row.0) (ap (λ rows. slice_get rows leaf) a.leaves ∙ row.1)
+
+  fresh : (leaf : ℕ) → leaf < length keys → MayClear kinds.Elaboration (home_of p leaf)
+  fresh leaf l = rw (home_is s keys nodes r p a roots same leaf l) refl
+
+  no_formals : All (λ (body : Body). body.formals ≡ []) p.bodies
+  no_formals = three_bodies s keys nodes r p a roots same (λ (body : Body). body.formals ≡ []) refl refl refl
+
+  proper_code : Each (KnownStatement keys) (statements_of s.body.procedure.block)
+      → All (λ (body : Body). IsProperCode (cells_of p) (λ leaf. MayClear body.kind (home_of p leaf)) (code_of p.exprs p.stmts body.code)) p.bodies
+  proper_code known = three_bodies s keys nodes r p a roots same (λ (body : Body). IsProperCode (cells_of p) (λ leaf. MayClear body.kind (home_of p leaf)) (code_of p.exprs p.stmts body.code))
+      (rw (a.exprs, a.stmts, roots.spec_code) (variables_proper keys (cells_of p) scalar (λ leaf. MayClear kinds.Elaboration (home_of p leaf)) fresh 0 s.spec.variables (omega arith)))
+      (rw (a.exprs, a.stmts, roots.body_code) tt)
+      (rw (a.exprs, a.stmts, roots.procedure_code) (statements_proper keys (cells_of p) scalar (λ leaf. MayClear kinds.Procedure (home_of p leaf)) (statements_of s.body.procedure.block) known))
+
+  pub proper : Each (KnownStatement keys) (statements_of s.body.procedure.block) → IsProper p
+  proper known = record {
+    leaves = leaves_agree;
+    roots = λ b body is k. All-slice_get (λ (x : Body). x.formals ≡ []) p.bodies b body no_formals is;
+    code = λ b body is. All-slice_get (λ (x : Body). IsProperCode (cells_of p) (λ leaf. MayClear x.kind (home_of p leaf)) (code_of p.exprs p.stmts x.code)) p.bodies b body (proper_code known) is;
+  }

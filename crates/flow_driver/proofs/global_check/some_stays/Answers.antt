@@ -1,0 +1,7 @@
+use Rattle.std.proofs.Common.{◌≡◌, ◌∙◌, sym, true}
+use Rattle.flow_driver.specs.GlobalCheck.{stays}
+use Rattle.flow_driver.proofs.Leaves.{one_passed, one_found}
+use Rattle.flow_driver.proofs.global_check.some_stays.Goals as goal
+
+pub loop-i-preserved : goal.loop-i-preserved
+loop-i-preserved c = one_passed (stays c.args.row.now) c.args.var.now.count c.args.var.now.from.0 c.loop-i.i c.loop-i-test.true (sym c.stays.ensures ∙ c.if-stays.false) ∙ c.loop-i.invariant
