@@ -1,9 +1,9 @@
 -- Where more is known of the parts, more is known of the whole.
-use Rattle.std.proofs.Common.{◌≡◌, ◌≢◌, ℕ, zero, suc, ◌<◌, ◌≤◌, ◌⊎◌, Bool, true, false, Option, arith}
+use Rattle.std.proofs.Common.{◌≡◌, ℕ, zero, suc, Option, arith}
 use Rattle.spark_base.specs.declared.numbers.BodyNo.{BodyNo}
 use Rattle.spark_base.specs.declared.numbers.LeafNo.{LeafNo}
-use Rattle.core_form.specs.Code.{Expr, Exprs, Spot, Actuals, Outcome, Next, Leaves, Returns, Code, At, Skip, Then, Assign, Clear, Branch, Repeat, Exit, Called, Guard, Delay, ReadClock, Stop}
-use Rattle.flow_relations.specs.Flow.{Flow, IsExit, nowhere, reading, leaving, moving, changing, setting, clearing, seq, branch, unrolling, inside, loop, guarding, flow, reads_of, reads_of_all, IsWithin}
+use Rattle.core_form.specs.Code.{Actuals, Next, Code, Skip, Then, Assign, Clear, Branch, Repeat, Exit, Called, Guard, Delay, ReadClock, Stop}
+use Rattle.flow_relations.specs.Flow.{Flow, nowhere, reading, leaving, setting, clearing, seq, branch, unrolling, loop, guarding, flow, reads_of, IsWithin}
 
 pub within_itself : (f : Flow) → IsWithin f f
 within_itself f = record { reads = λ v x. x; writes = λ v x. x; decides = λ v x. x; can = λ o x. x; kept = λ o v w x. x; dep = λ o v w x. x }

@@ -1,6 +1,6 @@
 -- Flows with the same facts.
-use Rattle.std.proofs.Common.{◌≡◌, ◌≢◌, ℕ, ◌<◌, ◌≤◌, ◌⊎◌, ◌↔◌, Bool, true, false, arith}
-use Rattle.core_form.specs.Code.{Exprs, At, Outcome, Next}
+use Rattle.std.proofs.Common.{ℕ, ◌<◌, ◌⊎◌, ◌↔◌, Bool, true, false, arith}
+use Rattle.core_form.specs.Code.{Exprs, At, Next}
 use Rattle.flow_relations.specs.Flow.{Flow, leaving, moving, changing, setting, clearing, seq, reads_of_all, branch, IsWithin, IsSame}
 use Rattle.flow_relations.proofs.Grows.{seq_grows, branch_grows}
 

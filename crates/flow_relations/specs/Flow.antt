@@ -1,5 +1,5 @@
 -- The flow of a statement: what may be read, written, kept and decided.
-use Rattle.std.specs.Prelude.{◌≡◌, ◌≢◌, ℕ, zero, suc, ◌<◌, ◌≤◌, Bool, true, false, ◌⊎◌, ◌↔◌, Option, Some, None}
+use Rattle.std.specs.Prelude.{◌≡◌, ◌≢◌, ℕ, zero, suc, ◌<◌, ◌≤◌, true, false, ◌⊎◌, ◌↔◌, Option, Some, None}
 use Rattle.spark_base.specs.declared.numbers.BodyNo.{BodyNo}
 use Rattle.spark_base.specs.declared.numbers.LeafNo.{LeafNo}
 use Rattle.core_form.specs.Code.{Expr, Exprs, Spot, Actuals, Outcome, Next, Leaves, Returns, Code, Constant, Load, Operation, Choice, Listed, Checked, Nothing, And, At, Skip, Then, Assign, Clear, Branch, Repeat, Exit, Called, Guard, Delay, ReadClock, Stop}

@@ -1,5 +1,5 @@
 -- What the rows of a statement's facts and of a body's flow say.
-use Rattle.std.specs.Prelude.{◌≡◌, ℕ, ◌+◌, ◌⊎◌, ◌↔◌, Bool, true, false, List, [], ◌∷◌, All, IsTrue, length}
+use Rattle.std.specs.Prelude.{◌≡◌, ℕ, ◌⊎◌, ◌↔◌, Bool, true, false, List, [], ◌∷◌, All, IsTrue, length}
 use Rattle.core_form.specs.Code.{Outcome, Next, Leaves, Returns}
 use Rattle.flow_relations.specs.declared.equation.BodyRow.{BodyRow}
 use Rattle.flow_relations.specs.declared.facts.Facts.{Facts}

@@ -12,3 +12,6 @@ mod statements;
 
 pub use equation::{BodyRow, row_of_body};
 pub use flows::{End, Flow, Outcome, flow_of};
+
+#[cfg(test)]
+mod tests;

@@ -1,6 +1,6 @@
 ghost use Rattle.std.specs.Prelude.{◌≡◌, ◌+◌, ◌<◌, ◌≤◌, length};
 ghost use Rattle.core_form.specs.Code.{code_of, codes_at, expr_of, exprs_at, spot_at};
-ghost use Rattle.core_form.specs.Fine.{IsWellFormed, PlaceBelow, StmtsBelow};
+ghost use Rattle.core_form.specs.Fine.{HasFineNodes, PlaceBelow, StmtsBelow};
 ghost use Rattle.flow_relations.specs.Equation.{names_of, clock_among};
 ghost use Rattle.flow_relations.specs.Flow.{reads_of_spot};
 ghost use Rattle.flow_relations.specs.Sets.{Tells, either};
@@ -12,7 +12,7 @@ use spark_base::StmtNo;
 
 /// Adds the leaves that a place names: its own, and those that choose its part.
 fn add_place(program: &Program, place: &Place, into: &mut Row)
-    requires fine { IsWellFormed program.now }
+    requires fine { HasFineNodes program.now }
     requires place { PlaceBelow (length program.now.leaves) (length program.now.exprs) place.now }
     requires size { length into.old ≡ length program.now.leaves + 1 }
     ensures size { length into.new ≡ length into.old }
@@ -30,7 +30,7 @@ fn add_place(program: &Program, place: &Place, into: &mut Row)
 /// Adds the leaves that a statement names.
 #[cycle(names)]
 pub fn add_names(program: &Program, s: StmtNo, into: &mut Row)
-    requires fine { IsWellFormed program.now }
+    requires fine { HasFineNodes program.now }
     requires in_range { s.0 < length program.now.stmts }
     requires size { length into.old ≡ length program.now.leaves + 1 }
     ensures size { length into.new ≡ length into.old }
@@ -65,7 +65,7 @@ pub fn add_names(program: &Program, s: StmtNo, into: &mut Row)
 // Adds the leaves that the statements of a list name.
 #[cycle(names)]
 fn add_all_names(program: &Program, below: u32, list: &[StmtNo], into: &mut Row)
-    requires fine { IsWellFormed program.now }
+    requires fine { HasFineNodes program.now }
     requires in_range { below ≤ length program.now.stmts }
     requires list { StmtsBelow below list.now }
     requires size { length into.old ≡ length program.now.leaves + 1 }

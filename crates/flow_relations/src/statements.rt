@@ -1,6 +1,6 @@
 ghost use Rattle.std.specs.Prelude.{◌≡◌, ℕ, ◌+◌, ◌<◌, ◌≤◌, ◌⊎◌, length, IfOk, OnOk};
 ghost use Rattle.core_form.specs.Code.{code_of, codes_at, expr_of, exprs_at, spot_at};
-ghost use Rattle.core_form.specs.Fine.{IsWellFormed, PlaceBelow, StmtsBelow};
+ghost use Rattle.core_form.specs.Fine.{HasFineNodes, PlaceBelow, StmtsBelow};
 ghost use Rattle.flow_relations.specs.Equation.{plain_flow};
 ghost use Rattle.flow_relations.specs.Flow.{IsSame, seq, setting, reads_of, reads_of_all};
 ghost use Rattle.flow_relations.specs.Sets.{Tells};
@@ -25,7 +25,7 @@ pub struct Room {
 
 /// The number that stands for "not assigned".
 pub fn void_of(program: &Program) -> u32
-    requires { IsWellFormed program.now }
+    requires { HasFineNodes program.now }
     ensures { result ≡ length program.now.leaves }
 {
     program.leaves.len() as u32
@@ -42,7 +42,7 @@ pub fn new_room(alloc: Global, size: u32) -> Result<Room, NoMemory>
 
 // Makes `into` what an expression reads.
 fn only_reads(program: &Program, e: ExprNo, into: &mut Row)
-    requires fine { IsWellFormed program.now }
+    requires fine { HasFineNodes program.now }
     requires in_range { e.0 < length program.now.exprs }
     requires size { length into.old ≡ length program.now.leaves + 1 }
     ensures size { length into.new ≡ length into.old }
@@ -54,7 +54,7 @@ fn only_reads(program: &Program, e: ExprNo, into: &mut Row)
 
 // Makes `into` what a move reads: its value, and what chooses its part.
 fn move_reads(program: &Program, to: &Place, from: ExprNo, into: &mut Row)
-    requires fine { IsWellFormed program.now }
+    requires fine { HasFineNodes program.now }
     requires to { PlaceBelow (length program.now.leaves) (length program.now.exprs) to.now }
     requires from { from.0 < length program.now.exprs }
     requires size { length into.old ≡ length program.now.leaves + 1 }
@@ -73,7 +73,7 @@ fn move_reads(program: &Program, to: &Place, from: ExprNo, into: &mut Row)
 
 // Puts a move before what follows.
 fn prepend_setting(program: &Program, to: &Place, from: ExprNo, rest: &mut Facts, room: &mut Room)
-    requires fine { IsWellFormed program.now }
+    requires fine { HasFineNodes program.now }
     requires to { PlaceBelow (length program.now.leaves) (length program.now.exprs) to.now }
     requires from { from.0 < length program.now.exprs }
     requires size { AreSized (length program.now.leaves + 1) rest.old }
@@ -112,7 +112,7 @@ pub fn facts_of(
     s: StmtNo,
     room: &mut Room,
 ) -> Result<Facts, NoMemory>
-    requires fine { IsWellFormed program.now }
+    requires fine { HasFineNodes program.now }
     requires in_range { s.0 < length program.now.stmts }
     requires room { HasRoom (length program.now.leaves + 1) room.old }
     ensures room { HasRoom (length program.now.leaves + 1) room.new }
@@ -158,7 +158,7 @@ fn facts_of_all(
     list: &[StmtNo],
     room: &mut Room,
 ) -> Result<Facts, NoMemory>
-    requires fine { IsWellFormed program.now }
+    requires fine { HasFineNodes program.now }
     requires in_range { below ≤ length program.now.stmts }
     requires list { StmtsBelow below list.now }
     requires room { HasRoom (length program.now.leaves + 1) room.old }
@@ -182,7 +182,7 @@ fn prepend(
     rest: &mut Facts,
     room: &mut Room,
 ) -> Result<(), NoMemory>
-    requires fine { IsWellFormed program.now }
+    requires fine { HasFineNodes program.now }
     requires in_range { s.0 < length program.now.stmts }
     requires size { AreSized (length program.now.leaves + 1) rest.old }
     requires room { HasRoom (length program.now.leaves + 1) room.old }

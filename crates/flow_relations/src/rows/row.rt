@@ -22,6 +22,7 @@ impl Model for Row {
 }
 
 impl Row {
+    /// The empty set, for numbers below a size. It alone takes memory.
     pub fn new(alloc: Global, size: u32) -> Result<Row, NoMemory>
         ensures size { IfOk result (λ row. length row ≡ size) }
         ensures empty { IfOk result (λ row. Tells row (λ v. ⊥)) }
@@ -30,12 +31,14 @@ impl Row {
         Ok(Row { flags })
     }
 
+    /// The numbers of the set are below it.
     pub fn size(&self) -> u32
         ensures { result ≡ length self.now }
     {
         self.flags.len() as u32
     }
 
+    /// Whether a number is in the set.
     pub fn has(&self, i: u32) -> bool
         requires { i < length self.now }
         ensures { IsTrue result ↔ Has self.now i }
@@ -56,6 +59,7 @@ impl Row {
         grew
     }
 
+    /// Takes a number away.
     pub fn remove(&mut self, i: u32)
         requires { i < length self.old }
         ensures size { length self.new ≡ length self.old }
@@ -64,6 +68,7 @@ impl Row {
         self.flags[i as usize] = false;
     }
 
+    /// Adds all numbers of another set, and says whether this one grew.
     pub fn union_into(&mut self, other: &Row) -> bool
         requires { length other.now ≡ length self.old }
         ensures size { length self.new ≡ length self.old }
@@ -74,6 +79,7 @@ impl Row {
         union_flags(self.flags.as_mut_slice(), other.flags.as_slice())
     }
 
+    /// Takes all numbers of another set away.
     pub fn minus_into(&mut self, other: &Row)
         requires { length other.now ≡ length self.old }
         ensures size { length self.new ≡ length self.old }
@@ -82,6 +88,7 @@ impl Row {
         minus_flags(self.flags.as_mut_slice(), other.flags.as_slice())
     }
 
+    /// Keeps the numbers that are in another set too.
     pub fn intersect_into(&mut self, other: &Row)
         requires { length other.now ≡ length self.old }
         ensures size { length self.new ≡ length self.old }
@@ -98,6 +105,7 @@ impl Row {
         self.flags.fill(false);
     }
 
+    /// Becomes the other set.
     pub fn copy_from(&mut self, other: &Row)
         requires { length other.now ≡ length self.old }
         ensures { self.new ≡ other.now }

@@ -25,6 +25,7 @@ impl Model for Square {
 }
 
 impl Square {
+    /// No pairs, for numbers below a size. It alone takes memory.
     pub fn new(alloc: Global, size: u32) -> Result<Square, NoMemory>
         ensures size { IfOk result (λ square. length square ≡ size) }
         ensures empty { IfOk result (λ square. TellsPairs square (λ a b. ⊥)) }
@@ -33,12 +34,14 @@ impl Square {
         Ok(Square { rows })
     }
 
+    /// The numbers of the pairs are below it.
     pub fn size(&self) -> u32
         ensures { result ≡ length self.now }
     {
         self.rows.len() as u32
     }
 
+    /// Whether a pair is in the set.
     pub fn has(&self, a: u32, b: u32) -> bool
         requires a { a < length self.now }
         requires b { b < length self.now }
@@ -47,6 +50,7 @@ impl Square {
         self.rows[a as usize].has(b)
     }
 
+    /// Adds a pair, and says whether the set grew.
     pub fn add(&mut self, a: u32, b: u32) -> bool
         requires a { a < length self.old }
         requires b { b < length self.old }
@@ -87,6 +91,7 @@ impl Square {
         into.copy_from(&self.rows[a as usize]);
     }
 
+    /// Becomes the other set of pairs.
     pub fn copy_from(&mut self, other: &Square)
         requires { length other.now ≡ length self.old }
         ensures size { length self.new ≡ length self.old }
@@ -113,6 +118,7 @@ impl Square {
         restrict_rows(self.rows.as_mut_slice(), row)
     }
 
+    /// Adds all pairs of another set.
     pub fn union_into(&mut self, other: &Square)
         requires { length other.now ≡ length self.old }
         ensures size { length self.new ≡ length self.old }

@@ -1,4 +1,4 @@
-use Rattle.std.proofs.Common.{◌≡◌, ◌≢◌, ℕ, ◌<◌, ◌⊎◌, length}
+use Rattle.std.proofs.Common.{◌≡◌, ◌<◌, ◌⊎◌, length}
 use Rattle.flow_relations.specs.Sets.{Relates, TellsPairs}
 use Rattle.flow_relations.proofs.facts.add_same.Given as goal
 

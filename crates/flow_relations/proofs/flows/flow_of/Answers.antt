@@ -1,7 +1,7 @@
 use Rattle.std.proofs.Common.{refl}
 use Rattle.std.proofs.lemmas.Result.{IfOk-weaker}
 use Rattle.core_form.specs.Code.{Next, code_of}
-use Rattle.flow_relations.specs.Equation.{plain_flow, code_of_body}
+use Rattle.flow_relations.specs.Equation.{plain_flow}
 use Rattle.flow_relations.specs.Flow.{IsSame}
 use Rattle.flow_relations.specs.Told.{told, flow_told}
 use Rattle.flow_relations.proofs.Same.{same_through}

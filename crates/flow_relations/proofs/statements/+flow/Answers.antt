@@ -1,6 +1,5 @@
-use Rattle.std.proofs.Common.{◌≡◌, ℕ, suc, ◌+◌, ◌-◌, ◌<◌, length, List, ◌∷◌, drop, get_or, arith, ap, ◌∙◌}
+use Rattle.std.proofs.Common.{◌≡◌, suc, ◌-◌, ◌<◌, length, ◌∷◌, drop, get_or, arith, ap, ◌∙◌}
 use Rattle.std.proofs.Math.Seq.{drop-cons}
-use Rattle.spark_base.specs.declared.numbers.StmtNo.{StmtNo}
 use Rattle.flow_relations.proofs.Same.{same_itself, same_through, seq_same, branch_same, setting_last, clearing_last}
 use Rattle.flow_relations.proofs.statements.+flow.Goals as goal
 

@@ -1,4 +1,4 @@
-use Rattle.std.proofs.Common.{◌≡◌, ℕ, ◌<◌, ◌↔◌, ◌⊎◌}
+use Rattle.std.proofs.Common.{◌<◌}
 use Rattle.flow_relations.specs.Sets.{Has, Tells}
 use Rattle.flow_relations.proofs.rows.row.minus_flags.Given as goal
 

@@ -1,5 +1,5 @@
-use Rattle.std.proofs.Common.{◌≡◌, ℕ, ◌<◌, ◌≤◌, ◌⊎◌, length}
-use Rattle.flow_relations.specs.Sets.{Has, Relates, TellsPairs, AreWide}
+use Rattle.std.proofs.Common.{ℕ, ◌<◌, length}
+use Rattle.flow_relations.specs.Sets.{Relates, AreWide}
 use Rattle.flow_relations.proofs.rows.square.copy_rows.Given as goal
 
 abbrev pub invariant-loop-a : goal.invariant-loop-a
