@@ -212,7 +212,8 @@ fn assemble(
     })
 }
 
-/// The core program of a source. `table` has the keys of its variables.
+/// The core program of a source. `table` has the keys of its variables. 2^32 - 1 variables or more, 2^32 expressions or
+/// statements or more, and no room for what is made are want of memory.
 pub fn lower(alloc: Global, source: &Source, table: &KeyTable) -> Result<Program, NoMemory>
     requires conditions { MeetsConditions source.now }
     requires table { table.now ≡ variable_keys source.now.spec.variables }
