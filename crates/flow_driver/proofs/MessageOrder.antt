@@ -60,14 +60,14 @@ abbrev code_named : List ℕ → Code
 code_named text =
     if bytes_eq text (codes "G01") then code.G01 else
     if bytes_eq text (codes "G02") then code.G02 else
-    if bytes_eq text (codes "U01") then code.U01 else
-    code.X01
+    if bytes_eq text (codes "G03") then code.G03 else
+    code.U01
 
 code_named-text : (c : Code) → code_named (code_text c) ≡ c
 code_named-text code.G01 = refl
 code_named-text code.G02 = refl
+code_named-text code.G03 = refl
 code_named-text code.U01 = refl
-code_named-text code.X01 = refl
 
 code_text-injective : (c d : Code) → code_text c ≡ code_text d → c ≡ d
 code_text-injective c d h = sym (code_named-text c) ∙ ap code_named h ∙ code_named-text d

@@ -18,7 +18,7 @@ use Rattle.flow_driver.specs.declared.messages.Code.{Code}
 use Rattle.flow_driver.specs.declared.messages.Code.TheVariants as code
 use Rattle.flow_driver.specs.declared.messages.Kind.TheVariants as kinds
 use Rattle.flow_driver.specs.declared.messages.Message.{Message}
-use Rattle.flow_driver.specs.MessageTexts.{unlisted_text, written_input_text}
+use Rattle.flow_driver.specs.MessageTexts.{unlisted_text, written_input_text, read_output_text}
 
 -- Used modes
 
@@ -50,8 +50,15 @@ mode_used true true left = used.InOut
 abbrev pub is_written : BodyRow → Var → Bool
 is_written row v = some_of (has row.writes) v
 
+-- whether a body may read what a variable held before, and whether it may leave it
+abbrev pub is_read : BodyRow → Var → Bool
+is_read row v = some_of (has row.reads) v
+
+abbrev pub is_left : BodyRow → Var → Bool
+is_left row v = row.returns && some_of (stays row) v
+
 abbrev pub used_mode : BodyRow → Var → UsedMode
-used_mode row v = mode_used (some_of (has row.reads) v) (is_written row v) (row.returns && some_of (stays row) v)
+used_mode row v = mode_used (is_read row v) (is_written row v) (is_left row v)
 
 -- Messages
 
@@ -98,22 +105,29 @@ unlisted_from p row body listed i (x ∷ xs) =
 abbrev pub var_named : Program → GlobalItem → Option Var
 var_named p g = elim (slice_get p.items g.item.0) [ None ↦ None | Some x ↦ var_of p x ]
 
-abbrev pub written_var : BodyRow → Body → Span → Option Var → List Message
-written_var row body place None = []
-written_var row body place (Some v) =
+-- G02 on a variable that is an input
+abbrev pub input_var : BodyRow → Body → Span → Option Var → List Message
+input_var row body place None = []
+input_var row body place (Some v) =
     if is_written row v then error_at place code.G02 (written_input_text v.name body.name) ∷ [] else []
 
--- G02 on an item of a Global
-abbrev pub written_item : Program → BodyRow → Body → GlobalItem → Mode → List Message
-written_item p row body g modes.Input = written_var row body g.place (var_named p g)
-written_item p row body g modes.Output = []
-written_item p row body g modes.InOut = []
-written_item p row body g modes.ProofIn = []
+-- G03 on a variable that is an output
+abbrev pub output_var : BodyRow → Body → Span → Option Var → List Message
+output_var row body place None = []
+output_var row body place (Some v) =
+    if is_read row v || is_left row v then error_at place code.G03 (read_output_text v.name body.name) ∷ [] else []
 
-abbrev pub written_inputs : Program → BodyRow → Body → List GlobalItem → List Message
-written_inputs p row body [] = []
-written_inputs p row body (g ∷ gs) = written_item p row body g g.mode ++ written_inputs p row body gs
+-- G02 and G03 on an item of a Global
+abbrev pub listed_item : Program → BodyRow → Body → GlobalItem → Mode → List Message
+listed_item p row body g modes.Input = input_var row body g.place (var_named p g)
+listed_item p row body g modes.Output = output_var row body g.place (var_named p g)
+listed_item p row body g modes.InOut = []
+listed_item p row body g modes.ProofIn = []
+
+abbrev pub listed_messages : Program → BodyRow → Body → List GlobalItem → List Message
+listed_messages p row body [] = []
+listed_messages p row body (g ∷ gs) = listed_item p row body g g.mode ++ listed_messages p row body gs
 
 -- the messages on a body with this Global
 abbrev pub global_messages : Program → BodyRow → Body → Contract → List Message
-global_messages p row body c = unlisted_from p row body (is_listed c.globals) 0 p.items ++ written_inputs p row body c.globals
+global_messages p row body c = unlisted_from p row body (is_listed c.globals) 0 p.items ++ listed_messages p row body c.globals

@@ -26,8 +26,8 @@ kind_text kinds.Refused = codes "refused"
 abbrev pub code_text : Code → List ℕ
 code_text code.G01 = codes "G01"
 code_text code.G02 = codes "G02"
+code_text code.G03 = codes "G03"
 code_text code.U01 = codes "U01"
-code_text code.X01 = codes "X01"
 
 -- the kinds in the order of their messages
 abbrev pub kind_number : Kind → ℕ

@@ -26,3 +26,8 @@ unlisted_text item mode body =
 -- "ITEM" is Input but "BODY" writes it
 abbrev pub written_input_text : List ℕ → List ℕ → List ℕ
 written_input_text item body = quoted item ++ codes " is Input but " ++ quoted body ++ codes " writes it"
+
+-- "ITEM" is Output but "BODY" may read its initial value or leave it; it must be In_Out
+abbrev pub read_output_text : List ℕ → List ℕ → List ℕ
+read_output_text item body =
+    quoted item ++ codes " is Output but " ++ quoted body ++ codes " may read its initial value or leave it; it must be In_Out"

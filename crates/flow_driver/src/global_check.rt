@@ -1,5 +1,5 @@
 //! The messages on the Global of a body.
-ghost use Rattle.std.specs.Prelude.{◌≡◌, ◌+◌, ◌++◌, ◌<◌, ◌≤◌, ◌^◌, [], ◌∷◌, Some, All, length, slice_get, IfOk, OnOk, IfSome, true, false};
+ghost use Rattle.std.specs.Prelude.{◌≡◌, ◌+◌, ◌++◌, ◌<◌, ◌≤◌, ◌^◌, [], ◌∷◌, Some, All, length, slice_get, IfOk, OnOk, IfSome, true, false, ◌||◌};
 ghost use Rattle.std.specs.Option.{option_copied};
 ghost use Rattle.core_form.specs.Fine.{IsFineItem, IsWellFormed};
 ghost use Rattle.flow_relations.specs.Sets.{Tells, either};
@@ -7,7 +7,7 @@ ghost use Rattle.flow_relations.specs.Told.{AreRowsSized};
 ghost use Rattle.flow_driver.specs.GlobalCheck as spec;
 ghost use Rattle.flow_driver.specs.GlobalCheck.{has, some_leaf, some_of, stays, mode_used};
 
-use crate::message_texts::{UsedMode, unlisted_text, written_input_text};
+use crate::message_texts::{UsedMode, read_output_text, unlisted_text, written_input_text};
 use crate::messages::{Code, Kind, Message};
 use core_form::{Body, Contract, GlobalItem, Item, Mode, Program, Var};
 use flow_relations::BodyRow;
@@ -73,6 +73,16 @@ fn mode_used(read: bool, written: bool, left: bool) -> UsedMode
     }
 }
 
+/// Whether a body may leave what a variable held before.
+fn is_left(row: &BodyRow, var: &Var) -> bool
+    requires sized { AreRowsSized (length row.now.leaves) row.now }
+    requires var { var.now.from.0 + var.now.count ≤ length row.now.leaves }
+    requires room { length row.now.leaves < 2 ^ 32 }
+    ensures { result ≡ spec.is_left row.now var.now }
+{
+    row.returns && some_stays(row, var)
+}
+
 /// What a body does with a variable.
 fn used_mode(row: &BodyRow, var: &Var) -> UsedMode
     requires sized { AreRowsSized (length row.now.leaves) row.now }
@@ -82,8 +92,8 @@ fn used_mode(row: &BodyRow, var: &Var) -> UsedMode
 {
     let read = some_of(&row.reads, var);
     let written = some_of(&row.writes, var);
-    let left = some_stays(row, var);
-    mode_used(read, written, row.returns && left)
+    let left = is_left(row, var);
+    mode_used(read, written, left)
 }
 
 /// An error at the beginning of a span.
@@ -185,7 +195,7 @@ fn append_unlisted(
 }
 
 /// Adds G02 on a variable that is an input.
-fn append_written_var(
+fn append_input_var(
     alloc: Global,
     list: &mut Items<Message>,
     row: &BodyRow,
@@ -196,7 +206,7 @@ fn append_written_var(
     requires sized { AreRowsSized (length row.now.leaves) row.now }
     requires room { length row.now.leaves < 2 ^ 32 }
     requires var { IfSome var (λ v. v.now.from.0 + v.now.count ≤ length row.now.leaves) }
-    ensures { OnOk result (list.new ≡ list.old ++ spec.written_var row.now body.now place (option_copied var.entry)) }
+    ensures { OnOk result (list.new ≡ list.old ++ spec.input_var row.now body.now place (option_copied var.entry)) }
 {
     match var {
         Some(var) if some_of(&row.writes, var) => {
@@ -207,8 +217,41 @@ fn append_written_var(
     }
 }
 
-/// Adds G02 on an item of a Global.
-fn append_written(
+/// Whether a body may read what a variable held before, or leave it.
+fn is_read_or_left(row: &BodyRow, var: &Var) -> bool
+    requires sized { AreRowsSized (length row.now.leaves) row.now }
+    requires var { var.now.from.0 + var.now.count ≤ length row.now.leaves }
+    requires room { length row.now.leaves < 2 ^ 32 }
+    ensures { result ≡ (spec.is_read row.now var.now || spec.is_left row.now var.now) }
+{
+    some_of(&row.reads, var) || is_left(row, var)
+}
+
+/// Adds G03 on a variable that is an output.
+fn append_output_var(
+    alloc: Global,
+    list: &mut Items<Message>,
+    row: &BodyRow,
+    body: &Body,
+    place: Span,
+    var: Option<&Var>,
+) -> Result<(), NoMemory>
+    requires sized { AreRowsSized (length row.now.leaves) row.now }
+    requires room { length row.now.leaves < 2 ^ 32 }
+    requires var { IfSome var (λ v. v.now.from.0 + v.now.count ≤ length row.now.leaves) }
+    ensures { OnOk result (list.new ≡ list.old ++ spec.output_var row.now body.now place (option_copied var.entry)) }
+{
+    match var {
+        Some(var) if is_read_or_left(row, var) => {
+            let text = read_output_text(alloc, var.name.as_slice(), body.name.as_slice())?;
+            list.push(error_at(place, Code::G03, text))
+        }
+        _ => Ok(()),
+    }
+}
+
+/// Adds G02 and G03 on an item of a Global.
+fn append_listed(
     alloc: Global,
     list: &mut Items<Message>,
     program: &Program,
@@ -218,19 +261,23 @@ fn append_written(
 ) -> Result<(), NoMemory>
     requires fine { IsWellFormed program.now }
     requires sized { AreRowsSized (length program.now.leaves + 1) row.now }
-    ensures { OnOk result (list.new ≡ list.old ++ spec.written_item program.now row.now body.now global global.mode) }
+    ensures { OnOk result (list.new ≡ list.old ++ spec.listed_item program.now row.now body.now global global.mode) }
 {
     match global.mode {
         Mode::Input => {
             let var = var_named(program, global);
-            append_written_var(alloc, list, row, body, global.place, var)
+            append_input_var(alloc, list, row, body, global.place, var)
         }
-        Mode::Output | Mode::InOut | Mode::ProofIn => Ok(()),
+        Mode::Output => {
+            let var = var_named(program, global);
+            append_output_var(alloc, list, row, body, global.place, var)
+        }
+        Mode::InOut | Mode::ProofIn => Ok(()),
     }
 }
 
-/// Adds G02 on each item of a Global.
-fn append_written_inputs(
+/// Adds G02 and G03 on each item of a Global.
+fn append_listed_items(
     alloc: Global,
     list: &mut Items<Message>,
     program: &Program,
@@ -240,10 +287,10 @@ fn append_written_inputs(
 ) -> Result<(), NoMemory>
     requires fine { IsWellFormed program.now }
     requires sized { AreRowsSized (length program.now.leaves + 1) row.now }
-    ensures { OnOk result (list.new ≡ list.old ++ spec.written_inputs program.now row.now body.now globals.now) }
+    ensures { OnOk result (list.new ≡ list.old ++ spec.listed_messages program.now row.now body.now globals.now) }
 {
     for global in globals {
-        append_written(alloc, list, program, row, body, *global)?;
+        append_listed(alloc, list, program, row, body, *global)?;
     }
     Ok(())
 }
@@ -291,5 +338,5 @@ pub fn append_global_messages(
     let globals = contract.globals.as_slice();
     let listed = listed_items(alloc, globals, count as u32)?;
     append_unlisted_items(alloc, list, program, row, body, &listed)?;
-    append_written_inputs(alloc, list, program, row, body, globals)
+    append_listed_items(alloc, list, program, row, body, globals)
 }

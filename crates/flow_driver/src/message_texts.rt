@@ -1,6 +1,6 @@
 //! The texts of messages, as functions of the names that they mention.
 ghost use Rattle.std.specs.Prelude.{◌≡◌, ◌++◌, IfOk, OnOk};
-ghost use Rattle.flow_driver.specs.MessageTexts.{quoted, mode_text, outside_text, unlisted_text, written_input_text};
+ghost use Rattle.flow_driver.specs.MessageTexts.{quoted, mode_text, outside_text, unlisted_text, written_input_text, read_output_text};
 
 use spark_base::{Bytes, NoMemory};
 use std::alloc::Global;
@@ -82,6 +82,18 @@ pub fn written_input_text(alloc: Global, item: &[u8], body: &[u8]) -> Result<Byt
     Ok(text)
 }
 
+/// The text of `G03`, about an item that its Global lists as an output, and that a body may read or leave.
+pub fn read_output_text(alloc: Global, item: &[u8], body: &[u8]) -> Result<Bytes, NoMemory>
+    ensures { IfOk result (λ t. t ≡ read_output_text item.now body.now) }
+{
+    let mut text = Bytes::new(alloc);
+    append_quoted(&mut text, item)?;
+    text.append(b" is Output but ")?;
+    append_quoted(&mut text, body)?;
+    text.append(b" may read its initial value or leave it; it must be In_Out")?;
+    Ok(text)
+}
+
 #[cfg(test)]
 mod tests {
     use super::*;
@@ -102,6 +114,11 @@ mod tests {
         assert_eq!(rt;
             written.as_slice(),
             b"\"X\" is Input but \"P.Inc\" writes it".as_slice()
+        );
+        let read = read_output_text(alloc, b"X", b"P.Inc")?;
+        assert_eq!(rt;
+            read.as_slice(),
+            b"\"X\" is Output but \"P.Inc\" may read its initial value or leave it; it must be In_Out".as_slice()
         );
         Ok(())
     }

@@ -45,10 +45,10 @@ pub enum Code {
     G01,
     /// A body writes what its Global lists as an input.
     G02,
+    /// An item is Output, and the body may read its initial value or leave it.
+    G03,
     /// A source is outside the subset.
     U01,
-    /// A file has too many bytes.
-    X01,
 }
 
 impl Code {
@@ -59,8 +59,8 @@ impl Code {
         match self {
             Code::G01 => "G01",
             Code::G02 => "G02",
+            Code::G03 => "G03",
             Code::U01 => "U01",
-            Code::X01 => "X01",
         }
     }
 }
