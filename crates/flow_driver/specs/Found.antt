@@ -5,7 +5,7 @@ use Rattle.core_form.specs.declared.program.Program.{Program}
 use Rattle.first_lower.specs.Lowered.{IsLowered}
 use Rattle.first_path.specs.Conditions.{MeetsConditions}
 use Rattle.first_path.specs.declared.source.Source.{Source}
-use Rattle.flow_driver.specs.declared.messages.Message.{Message}
+use Rattle.spark_messages.specs.declared.messages.Message.{Message}
 
 -- some messages of this kind are added at the end
 pub record Appends (P : List Message → Type 0) (old new : List Message) : Type 0 where

@@ -12,13 +12,13 @@ use Rattle.core_form.specs.declared.program.Item.TheVariants as item
 use Rattle.core_form.specs.declared.program.Program.{Program}
 use Rattle.core_form.specs.declared.program.Var.{Var}
 use Rattle.flow_relations.specs.declared.equation.BodyRow.{BodyRow}
-use Rattle.flow_driver.specs.declared.message_texts.UsedMode.{UsedMode}
-use Rattle.flow_driver.specs.declared.message_texts.UsedMode.TheVariants as used
-use Rattle.flow_driver.specs.declared.messages.Code.{Code}
-use Rattle.flow_driver.specs.declared.messages.Code.TheVariants as code
-use Rattle.flow_driver.specs.declared.messages.Kind.TheVariants as kinds
-use Rattle.flow_driver.specs.declared.messages.Message.{Message}
-use Rattle.flow_driver.specs.MessageTexts.{unlisted_text, written_input_text, read_output_text}
+use Rattle.spark_messages.specs.declared.message_texts.UsedMode.{UsedMode}
+use Rattle.spark_messages.specs.declared.message_texts.UsedMode.TheVariants as used
+use Rattle.spark_messages.specs.declared.messages.Code.{Code}
+use Rattle.spark_messages.specs.declared.messages.Code.TheVariants as code
+use Rattle.spark_messages.specs.declared.messages.Kind.TheVariants as kinds
+use Rattle.spark_messages.specs.declared.messages.Message.{Message}
+use Rattle.spark_messages.specs.MessageTexts.{unlisted_text, written_input_text, read_output_text}
 
 -- Used modes
 

@@ -1,9 +1,6 @@
 pub mod Ending
 pub mod Found
 pub mod GlobalCheck
-pub mod Message
-pub mod MessageTexts
 pub mod Reading
 pub mod Report
 pub mod Run
-pub mod Text

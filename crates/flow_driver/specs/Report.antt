@@ -12,12 +12,12 @@ use Rattle.first_path.specs.declared.source.Source.{Source}
 use Rattle.first_path.specs.Conditions.{MeetsConditions}
 use Rattle.first_path.specs.Symbols.{Spells}
 use Rattle.first_lower.specs.Lowered.{IsLowered}
-use Rattle.flow_driver.specs.declared.messages.Code.TheVariants as code
-use Rattle.flow_driver.specs.declared.messages.Kind.TheVariants as kinds
-use Rattle.flow_driver.specs.declared.messages.Message.{Message}
+use Rattle.spark_messages.specs.declared.messages.Code.TheVariants as code
+use Rattle.spark_messages.specs.declared.messages.Kind.TheVariants as kinds
+use Rattle.spark_messages.specs.declared.messages.Message.{Message}
 use Rattle.flow_driver.specs.declared.report.Report.{Report}
-use Rattle.flow_driver.specs.Message.{HaveSame, order}
-use Rattle.flow_driver.specs.MessageTexts.{outside_text}
+use Rattle.spark_messages.specs.Message.{HaveSame, order}
+use Rattle.spark_messages.specs.MessageTexts.{outside_text}
 use Rattle.flow_driver.specs.GlobalCheck.{global_messages}
 
 -- Readings

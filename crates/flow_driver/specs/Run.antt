@@ -5,12 +5,12 @@ use Rattle.std.specs.declared.option.Option.{Option}
 use Rattle.std.specs.Option.{option_map}
 use Rattle.source_io.specs.Files.{file_of}
 use Rattle.source_io.specs.Counts.{Rose, Grew}
-use Rattle.flow_driver.specs.declared.messages.Message.{Message}
+use Rattle.spark_messages.specs.declared.messages.Message.{Message}
 use Rattle.flow_driver.specs.declared.report.Report.{Report}
 use Rattle.flow_driver.specs.declared.report.TheConstants.{LIMIT}
-use Rattle.flow_driver.specs.Message.{is_grave}
+use Rattle.spark_messages.specs.Message.{is_grave}
 use Rattle.flow_driver.specs.Report.{IsReport}
-use Rattle.flow_driver.specs.Text.{text}
+use Rattle.spark_messages.specs.Text.{text}
 
 -- a word that names a file does not begin with a dash
 abbrev pub is_name : List ℕ → Bool

@@ -3,7 +3,7 @@ ghost use Rattle.source_io.specs.Counts.{Rose, Grew};
 ghost use Rattle.flow_driver.specs.Run.{has_errors, verdict, are_accepted, IsCountedBy, IsPrinted, IsPartlyPrinted, GrewByPart, Complains};
 ghost use Rattle.flow_driver.specs.Ending.{Prints, IsStatus, CountsReadFault, CountsWriteFault, AsksNames};
 
-use crate::messages::{Message, text_of};
+use spark_messages::{Message, text_of};
 use crate::{ReadFault, Report, read_all, report_of};
 use source_io::{Files, PrintFault, Sink, print_into};
 use spark_base::{Bytes, Items};

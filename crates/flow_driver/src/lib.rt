@@ -1,11 +1,8 @@
 //! The top call: from the words and the files to the printed report and the status.
 #![tactic(auto)]
 
-mod code_order;
 mod driver;
 mod global_check;
-pub mod message_texts;
-pub mod messages;
 mod reading;
 mod report;
 mod top;

@@ -6,8 +6,8 @@ ghost use Rattle.first_path.specs.Conditions.{MeetsConditions};
 ghost use Rattle.flow_driver.specs.Found.{Appends, IsLoweredFrom};
 
 use crate::global_check::append_global_messages;
-use crate::message_texts::outside_text;
-use crate::messages::{Code, Kind, Message, ordered};
+use spark_messages::message_texts::outside_text;
+use spark_messages::{Code, Kind, Message, ordered};
 use core_form::{Body, Contract, Program};
 use first_lower::lower;
 use first_path::{Source, conditions, reading_of, sources_are_one};

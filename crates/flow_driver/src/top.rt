@@ -2,7 +2,7 @@ ghost use Rattle.std.specs.Prelude.{◌≡◌, ◌⊎◌, ◌≤◌, ◌↔◌, 
 ghost use Rattle.source_io.specs.Clean.{files_told, bytes_held};
 ghost use Rattle.source_io.specs.Counts.{Rose};
 ghost use Rattle.flow_driver.specs.Run.{is_name, are_accepted, IsCountedBy, IsPrinted, IsPartlyPrinted, GrewByPart, Complains, unread_line};
-ghost use Rattle.flow_driver.specs.Text.{name_at};
+ghost use Rattle.spark_messages.specs.Text.{name_at};
 ghost use Rattle.flow_driver.specs.Reading.{IsLastAsked};
 
 use crate::{Ending, run};

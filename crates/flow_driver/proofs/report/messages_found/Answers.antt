@@ -1,6 +1,6 @@
 use Rattle.std.proofs.Common.{◌≡◌, ◌∙◌, List, [], ◌∷◌, ◌++◌, ◌+◌, ℕ, length, drop, refl, sym, subst, append_assoc, append-nil, arith}
 use Rattle.core_form.specs.declared.program.Body.{Body}
-use Rattle.flow_driver.specs.declared.messages.Message.{Message}
+use Rattle.spark_messages.specs.declared.messages.Message.{Message}
 use Rattle.flow_driver.specs.Report.{AreMessagesFrom}
 use Rattle.flow_driver.proofs.Leaves.{drop_get, drop_all}
 use Rattle.flow_driver.proofs.report.messages_found.Goals as goal

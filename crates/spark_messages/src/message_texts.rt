@@ -1,6 +1,6 @@
 //! The texts of messages, as functions of the names that they mention.
 ghost use Rattle.std.specs.Prelude.{◌≡◌, ◌++◌, IfOk, OnOk};
-ghost use Rattle.flow_driver.specs.MessageTexts.{quoted, mode_text, outside_text, unlisted_text, written_input_text, read_output_text};
+ghost use Rattle.spark_messages.specs.MessageTexts.{quoted, mode_text, outside_text, unlisted_text, written_input_text, read_output_text};
 
 use spark_base::{Bytes, NoMemory};
 use std::alloc::Global;

@@ -3,24 +3,24 @@ use Rattle.std.proofs.Common.{◌≡◌, Bool, true, false, refl, ap, subst, ◌
 use Rattle.std.proofs.lemmas.Bool.{eqb-true}
 use Rattle.std.specs.Str.{bytes_eq}
 use Rattle.std.specs.Cmp.Lexicographic.{pointwise}
-use Rattle.flow_driver.specs.declared.messages.Code.{Code}
-use Rattle.flow_driver.specs.declared.messages.Code.TheVariants as code
+use Rattle.spark_messages.specs.declared.messages.Code.{Code}
+use Rattle.spark_messages.specs.declared.messages.Code.TheVariants as code
 use Rattle.std.proofs.Math.Path.{fun_ext}
 use Rattle.std.specs.List.Sorted.{IsStrictlySortedBy}
 use Rattle.std.specs.Ordering.{nat_cmp}
 use Rattle.std.specs.declared.cmp.Ordering.{Ordering}
-use Rattle.flow_driver.specs.declared.messages.Message.{Message}
-use Rattle.flow_driver.specs.declared.messages.Kind.{Kind}
-use Rattle.flow_driver.specs.declared.messages.Kind.TheVariants.{Error, Warning, Refused}
-use Rattle.flow_driver.specs.Message.{order, kind_number, code_text, HaveSame}
-use Rattle.flow_driver.specs.contracts.messages.KindPartialEq.TheImpl as kind_eq_ghosts
-use Rattle.flow_driver.specs.contracts.messages.MessageOrd.TheImpl as ord
-use Rattle.flow_driver.specs.contracts.messages.KindOrd.TheImpl as kind
-use Rattle.flow_driver.specs.contracts.messages.MessagePartialEq.TheImpl as eq
-use Rattle.flow_driver.specs.contracts.messages.MessageOrd.TheImpl.Laws as laws
-use Rattle.flow_driver.proofs.SameList.{same_list}
+use Rattle.spark_messages.specs.declared.messages.Message.{Message}
+use Rattle.spark_messages.specs.declared.messages.Kind.{Kind}
+use Rattle.spark_messages.specs.declared.messages.Kind.TheVariants.{Error, Warning, Refused}
+use Rattle.spark_messages.specs.Message.{order, kind_number, code_text, HaveSame}
+use Rattle.spark_messages.specs.contracts.messages.KindPartialEq.TheImpl as kind_eq_ghosts
+use Rattle.spark_messages.specs.contracts.messages.MessageOrd.TheImpl as ord
+use Rattle.spark_messages.specs.contracts.messages.KindOrd.TheImpl as kind
+use Rattle.spark_messages.specs.contracts.messages.MessagePartialEq.TheImpl as eq
+use Rattle.spark_messages.specs.contracts.messages.MessageOrd.TheImpl.Laws as laws
+use Rattle.spark_messages.proofs.SameList.{same_list}
 use Rattle.std.specs.Cmp.{IsTotalOrder}
-use Rattle.flow_driver.specs.contracts.messages.MessageEq.TheImpl.Laws as eq_laws
+use Rattle.spark_messages.specs.contracts.messages.MessageEq.TheImpl.Laws as eq_laws
 use Rattle.std.proofs.lemmas.List.Filters.{dedup_is}
 use Rattle.std.proofs.lemmas.List.Kept.{Contains-dedup, Contains-from_dedup, IsStrictlySortedBy-dedup}
 use Rattle.std.proofs.lemmas.List.Sorted.{Contains-permutation, IsPermutation-sym}

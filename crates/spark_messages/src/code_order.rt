@@ -5,7 +5,7 @@ ghost use Rattle.std.specs.Cmp.Lexicographic.{pointwise, slice_cmp};
 ghost use Rattle.std.specs.Cmp.{partial_order_from_own_ties};
 ghost use Rattle.std.specs.Cmp.Rules.{comparing};
 ghost use Rattle.std.proofs.Common.{rules};
-ghost use Rattle.flow_driver.specs.Message.{code_text};
+ghost use Rattle.spark_messages.specs.Message.{code_text};
 
 use crate::messages::Code;
 use std::cmp::Ordering;

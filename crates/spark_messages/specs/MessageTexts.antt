@@ -1,7 +1,7 @@
 -- The texts of messages, as functions of the names that they mention.
 use Rattle.std.specs.Prelude.{ℕ, List, ◌++◌, codes}
-use Rattle.flow_driver.specs.declared.message_texts.UsedMode.{UsedMode}
-use Rattle.flow_driver.specs.declared.message_texts.UsedMode.TheVariants as used
+use Rattle.spark_messages.specs.declared.message_texts.UsedMode.{UsedMode}
+use Rattle.spark_messages.specs.declared.message_texts.UsedMode.TheVariants as used
 
 -- what a body does with an item, as it is printed
 abbrev pub mode_text : UsedMode → List ℕ

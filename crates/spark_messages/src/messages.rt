@@ -1,8 +1,8 @@
 //! Messages, their order and their text.
 ghost use Rattle.std.specs.Prelude.{◌≡◌, ◌++◌, IfOk, OnOk, map, string_bytes};
 ghost use Rattle.std.specs.List.Sorted.{IsStrictlySortedBy};
-ghost use Rattle.flow_driver.specs.Message.{is_grave, kind_text, code_text, order, HaveSame};
-ghost use Rattle.flow_driver.specs.Text.{text, front, back, line_of, last_line, name_at, error_count, warning_count};
+ghost use Rattle.spark_messages.specs.Message.{is_grave, kind_text, code_text, order, HaveSame};
+ghost use Rattle.spark_messages.specs.Text.{text, front, back, line_of, last_line, name_at, error_count, warning_count};
 
 use spark_base::{Bytes, FileNo, NoMemory, Pos};
 use std::alloc::Global;

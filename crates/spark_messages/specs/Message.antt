@@ -4,11 +4,11 @@ use Rattle.std.specs.List.{Contains}
 use Rattle.std.specs.Ordering.{nat_cmp, on, then_cmp}
 use Rattle.std.specs.Cmp.Lexicographic.{slice_cmp}
 use Rattle.std.specs.declared.cmp.Ordering.{Ordering}
-use Rattle.flow_driver.specs.declared.messages.Kind.{Kind}
-use Rattle.flow_driver.specs.declared.messages.Kind.TheVariants as kinds
-use Rattle.flow_driver.specs.declared.messages.Code.{Code}
-use Rattle.flow_driver.specs.declared.messages.Code.TheVariants as code
-use Rattle.flow_driver.specs.declared.messages.Message.{Message}
+use Rattle.spark_messages.specs.declared.messages.Kind.{Kind}
+use Rattle.spark_messages.specs.declared.messages.Kind.TheVariants as kinds
+use Rattle.spark_messages.specs.declared.messages.Code.{Code}
+use Rattle.spark_messages.specs.declared.messages.Code.TheVariants as code
+use Rattle.spark_messages.specs.declared.messages.Message.{Message}
 
 -- errors and refusals count as errors
 abbrev pub is_grave : Kind → Bool

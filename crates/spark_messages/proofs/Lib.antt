@@ -1,0 +1,2 @@
+pub mod MessageOrder
+pub mod SameList
