@@ -7,6 +7,9 @@ use std::alloc::Global;
 use std::default::MadeWith;
 use std::marker::Model;
 
+/// The largest size of a square: as many names as a program of 16,384 leaves has, with "not assigned".
+const LARGEST: u32 = 16_385;
+
 /// A set of pairs of numbers below its size.
 #[derive(Drop)]
 pub struct Square {
@@ -25,11 +28,15 @@ impl Model for Square {
 }
 
 impl Square {
-    /// No pairs, for numbers below a size. It alone takes memory.
+    /// No pairs, for numbers below a size. It alone takes memory, a byte for each pair: a size above `LARGEST` is
+    /// want of memory.
     pub fn new(alloc: Global, size: u32) -> Result<Square, NoMemory>
         ensures size { IfOk result (λ square. length square ≡ size) }
         ensures empty { IfOk result (λ square. TellsPairs square (λ a b. ⊥)) }
     {
+        if size > LARGEST {
+            return Err(NoMemory);
+        }
         let rows = empty_rows(alloc, size)?;
         Ok(Square { rows })
     }
