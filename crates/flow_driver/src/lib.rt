@@ -3,6 +3,7 @@
 
 mod driver;
 mod global_check;
+pub mod laws;
 mod reading;
 mod report;
 mod top;
