@@ -1,5 +1,5 @@
 //! Laws of the definitions: functions that do nothing, whose contracts hold for every source.
-ghost use Rattle.std.specs.Prelude.{ℕ, ◌+◌, ◌<◌, ◌↔◌, List, length, take};
+ghost use Rattle.std.specs.Prelude.{◌≡◌, ℕ, ◌+◌, ◌<◌, ◌↔◌, List, length, take};
 ghost use Rattle.flow_driver.specs.Report.{HasReport};
 ghost use Rattle.flow_driver.specs.declared.report.Report.{Report};
 ghost use Rattle.flow_driver.specs.declared.report.TheConstants.{LIMIT};
@@ -7,4 +7,9 @@ ghost use Rattle.flow_driver.specs.declared.report.TheConstants.{LIMIT};
 /// A source that is too long has the report of its first bytes, one more than the most that a file may have.
 pub fn cut_sources()
     ensures { (bytes : List ℕ) (r : Report) → LIMIT < length bytes → HasReport bytes r ↔ HasReport (take (LIMIT + 1) bytes) r }
+{}
+
+/// A source has one report at most.
+pub fn one_report()
+    ensures { (bytes : List ℕ) (r t : Report) → HasReport bytes r → HasReport bytes t → r ≡ t }
 {}
