@@ -5,6 +5,8 @@ mod driver;
 mod global_check;
 mod reading;
 mod report;
+#[cfg(test)]
+mod tests;
 mod top;
 
 pub use driver::{Ending, run};
