@@ -2,7 +2,7 @@
 use Rattle.std.proofs.Common.{◌≡◌, ℕ, List, [], ◌∷◌, ◌++◌, All, sym, subst}
 use Rattle.std.specs.List.{flat_map}
 use Rattle.std.proofs.lemmas.List.Elements.{All-nil, All-cons, All-head, All-tail}
-use Rattle.first_path.specs.Conditions.{MeetsConditions, variable_keys, entries_of, statements_of, words_of, primary_words, sum_words, statement_words}
+use Rattle.first_conditions.specs.Conditions.{MeetsConditions, variable_keys, entries_of, statements_of, words_of, primary_words, sum_words, statement_words}
 use Rattle.first_path.specs.declared.source.Entry.{Entry}
 use Rattle.first_path.specs.declared.source.Primary.{Primary}
 use Rattle.first_path.specs.declared.source.Primary.TheVariants as primary

@@ -2,7 +2,7 @@
 use Rattle.std.proofs.Common.{◌≡◌, ℕ, List, ap, ◌∙◌}
 use Rattle.core_form.specs.declared.build.Nodes.{Nodes}
 use Rattle.core_form.specs.declared.program.Program.{Program}
-use Rattle.first_path.specs.Conditions.{variable_keys, statements_of}
+use Rattle.first_conditions.specs.Conditions.{variable_keys, statements_of}
 use Rattle.first_path.specs.declared.source.Source.{Source}
 use Rattle.first_lower.specs.Assembled.{HasRoots, IsAssembled, bodies_of}
 use Rattle.first_lower.specs.Lowered.{IsLowered, low_statements}

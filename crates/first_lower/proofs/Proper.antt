@@ -10,7 +10,7 @@ use Rattle.core_form.specs.declared.program.BodyKind.TheVariants as kinds
 use Rattle.core_form.specs.declared.program.Leaf.{Leaf}
 use Rattle.core_form.specs.declared.program.Program.{Program}
 use Rattle.core_form.specs.declared.program.Var.{Var}
-use Rattle.first_path.specs.Conditions.{statements_of}
+use Rattle.first_conditions.specs.Conditions.{statements_of}
 use Rattle.first_path.specs.declared.source.Source.{Source}
 use Rattle.first_lower.specs.Assembled.{HasRoots, IsAssembled}
 use Rattle.first_lower.specs.Known.{Each, KnownStatement}

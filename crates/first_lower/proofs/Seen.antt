@@ -6,7 +6,7 @@ use Rattle.std.specs.Str.{bytes_eq}
 use Rattle.core_form.specs.Code.{Expr, Nothing}
 use Rattle.core_form.specs.Fine.{NamesIn, CodeIn}
 use Rattle.core_form.specs.Proper.{PlacesRight, IsWholeRight, IsProperCode}
-use Rattle.first_path.specs.Conditions.{key}
+use Rattle.first_conditions.specs.Conditions.{key}
 use Rattle.first_path.specs.declared.source.Primary.{Primary}
 use Rattle.first_path.specs.declared.source.Primary.TheVariants as primary
 use Rattle.first_path.specs.declared.source.Statement.{Statement}

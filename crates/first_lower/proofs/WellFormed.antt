@@ -20,7 +20,7 @@ use Rattle.core_form.specs.declared.program.Object.{Object}
 use Rattle.core_form.specs.declared.program.Program.{Program}
 use Rattle.core_form.specs.declared.program.TaskUnit.{TaskUnit}
 use Rattle.core_form.specs.declared.program.Var.{Var}
-use Rattle.first_path.specs.Conditions.{entries_of, statements_of, words_of}
+use Rattle.first_conditions.specs.Conditions.{entries_of, statements_of, words_of}
 use Rattle.first_path.specs.declared.source.Entry.{Entry}
 use Rattle.first_path.specs.declared.source.Source.{Source}
 use Rattle.first_path.specs.declared.source.Variable.{Variable}

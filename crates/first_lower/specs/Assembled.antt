@@ -4,7 +4,7 @@ use Rattle.core_form.specs.Code.{Skip, code_of}
 use Rattle.core_form.specs.declared.build.Nodes.{Nodes}
 use Rattle.core_form.specs.declared.program.Body.{Body}
 use Rattle.core_form.specs.declared.program.Program.{Program}
-use Rattle.first_path.specs.Conditions.{statements_of}
+use Rattle.first_conditions.specs.Conditions.{statements_of}
 use Rattle.first_path.specs.declared.source.Source.{Source}
 use Rattle.first_lower.specs.declared.program.Roots.{Roots}
 use Rattle.first_lower.specs.Lowered.{low_variables, low_statements, low_leaf, low_var, low_item, low_package, low_procedure, elaboration, each_from, assignments_of}

@@ -1,6 +1,6 @@
 -- The names of a part are those of variables.
 use Rattle.std.specs.Prelude.{◌≡◌, ℕ, true, List, [], ◌∷◌}
-use Rattle.first_path.specs.Conditions.{key, is_known, words_of}
+use Rattle.first_conditions.specs.Conditions.{key, is_known, words_of}
 use Rattle.first_path.specs.declared.source.Entry.{Entry}
 use Rattle.first_path.specs.declared.source.Primary.{Primary}
 use Rattle.first_path.specs.declared.source.Primary.TheVariants as primary

@@ -22,7 +22,7 @@ use Rattle.core_form.specs.declared.program.Part.TheVariants as part
 use Rattle.core_form.specs.declared.program.Program.{Program}
 use Rattle.core_form.specs.declared.program.Sharing.TheVariants as sharing
 use Rattle.core_form.specs.declared.program.Var.{Var}
-use Rattle.first_path.specs.Conditions.{key, variable_keys, statements_of, entries_of, words_of, mode_named}
+use Rattle.first_conditions.specs.Conditions.{key, variable_keys, statements_of, entries_of, words_of, mode_named}
 use Rattle.first_path.specs.declared.source.Adding.{Adding}
 use Rattle.first_path.specs.declared.source.Adding.TheVariants as adding
 use Rattle.first_path.specs.declared.source.Entry.{Entry}

@@ -1,14 +1,15 @@
 ghost use Rattle.std.specs.Prelude.{◌≡◌, ◌∷◌, ◌+◌, ◌<◌, ◌^◌, [], pos, IfOk, OnOk, length};
 ghost use Rattle.core_form.specs.Added.{AreFineNodes};
 ghost use Rattle.core_form.specs.Code.{Clear, Assign, Constant, Then, Skip, code_of};
-ghost use Rattle.first_path.specs.Conditions.{statements_of};
+ghost use Rattle.first_conditions.specs.Conditions.{statements_of};
 ghost use Rattle.first_lower.specs.Known.{Each, KnownWord, KnownSum, KnownStatement};
 ghost use Rattle.first_lower.specs.Lowered.{leaf_of, whole, checked, low_sum, low_statement, low_statements, low_variable, low_variables};
 ghost use Rattle.first_lower.specs.Steps.{Adds, Lists, codes_before};
 
 use crate::exprs::{add_checked, add_integer, whole_leaf, whole_place};
 use core_form::{CoreExpr, CoreStmt, Nodes};
-use first_path::{Block, KeyTable, Statement, Sum, Variable, Word};
+use first_conditions::KeyTable;
+use first_path::{Block, Statement, Sum, Variable, Word};
 use spark_base::{Items, LeafNo, NoMemory, StmtNo};
 use std::alloc::Global;
 

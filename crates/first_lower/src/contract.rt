@@ -1,12 +1,13 @@
 ghost use Rattle.std.specs.Prelude.{◌≡◌, [], ◌∷◌, ◌++◌, ◌<◌, ◌^◌, map, length, IfOk, OnOk};
 ghost use Rattle.std.specs.List.{flat_map};
-ghost use Rattle.first_path.specs.Conditions.{entries_of, words_of};
+ghost use Rattle.first_conditions.specs.Conditions.{entries_of, words_of};
 ghost use Rattle.first_lower.specs.Known.{Each, KnownWord, KnownEntry};
 ghost use Rattle.first_lower.specs.Lowered.{mode_of, low_global_item, low_entry, low_contract};
 
 use crate::exprs::find_leaf;
 use core_form::{Contract, GlobalItem, Mode};
-use first_path::{Entry, GlobalForm, KeyTable, Names, Word};
+use first_conditions::KeyTable;
+use first_path::{Entry, GlobalForm, Names, Word};
 use spark_base::{ItemNo, Items, NoMemory};
 use std::alloc::Global;
 
@@ -14,7 +15,7 @@ use std::alloc::Global;
 fn mode_of(entry: &Entry) -> Mode
     ensures { result ≡ mode_of entry.now }
 {
-    first_path::mode_of(&entry.mode).unwrap_or(Mode::Input)
+    first_conditions::mode_of(&entry.mode).unwrap_or(Mode::Input)
 }
 
 /// Adds an item of a Global.

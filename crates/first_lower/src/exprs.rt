@@ -7,7 +7,8 @@ ghost use Rattle.first_lower.specs.Lowered.{leaf_of, whole, checked, operator_of
 ghost use Rattle.first_lower.specs.Steps.{Adds, IsWhole};
 
 use core_form::{CoreExpr, CoreOp, Nodes, Place};
-use first_path::{Adding, KeyTable, Primary, Sum, Term, Word, key_of};
+use first_conditions::{KeyTable, key_of};
+use first_path::{Adding, Primary, Sum, Term, Word};
 use spark_base::{ExprNo, Items, LeafNo, NoMemory};
 use std::alloc::Global;
 

@@ -1,9 +1,9 @@
 ghost use Rattle.std.specs.Prelude.{◌≡◌, ◌+◌, ◌++◌, ◌<◌, ◌^◌, [], ◌∷◌, length, IfOk, OnOk};
 ghost use Rattle.core_form.specs.Fine.{IsWellFormed};
 ghost use Rattle.core_form.specs.Proper.{IsProper};
-ghost use Rattle.first_path.specs.Conditions.{MeetsConditions, variable_keys};
+ghost use Rattle.first_conditions.specs.Conditions.{MeetsConditions, variable_keys};
 ghost use Rattle.first_lower.specs.Lowered.{IsLowered, elaboration, low_procedure, low_package, assignments_of};
-ghost use Rattle.first_path.specs.Conditions.{statements_of, entries_of};
+ghost use Rattle.first_conditions.specs.Conditions.{statements_of, entries_of};
 ghost use Rattle.core_form.specs.Added.{AreFineNodes};
 ghost use Rattle.first_lower.specs.Assembled.{HasRoots, IsAssembled, bodies_of};
 ghost use Rattle.first_lower.specs.Known.{Each, KnownEntry, KnownStatement};
@@ -13,7 +13,8 @@ use crate::code::{add_block, add_sequence, add_variables};
 use crate::contract::contract;
 use crate::tables::{dotted, items, leaves, vars};
 use core_form::{Body, BodyKind, Nodes, Package, Program, States};
-use first_path::{Block, KeyTable, Source, Statement, Word};
+use first_conditions::KeyTable;
+use first_path::{Block, Source, Statement, Word};
 use spark_base::{BodyNo, Bytes, Items, NoMemory, PackageNo, Span, StmtNo};
 use std::alloc::Global;
 

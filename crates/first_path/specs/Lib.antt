@@ -1,5 +1,3 @@
 pub mod Begins
-pub mod Checks
-pub mod Conditions
 pub mod Spelling
 pub mod Symbols

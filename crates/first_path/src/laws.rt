@@ -6,5 +6,4 @@ ghost use Rattle.first_path.specs.declared.source.Source.{Source};
 /// The bytes of a file spell one source at most.
 pub fn sources_are_one()
     ensures { (file : FileNo) (bytes : List ℕ) (s t : Source) → Spells file bytes s → Spells file bytes t → s ≡ t }
-{
-}
+{}

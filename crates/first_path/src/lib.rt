@@ -1,25 +1,18 @@
-//! The first path: one package with its variables and one procedure of assignments.
+//! The first path: sources of one package with its variables and one procedure of assignments.
+//! `reading_of` reads the source that the bytes of a file spell, by the grammar in specs/Spelling,
+//! and `sources_are_one` says that they spell one at most.
 #![tactic(auto)]
 
-mod fit;
 mod global;
-mod known;
 mod laws;
-mod meets;
-mod names;
 mod reading;
 mod source;
 mod sources;
 mod steps;
 mod symbols;
-#[cfg(test)]
-mod tests;
 mod units;
 
-pub use fit::mode_of;
 pub use laws::sources_are_one;
-pub use meets::conditions;
-pub use names::{KeyTable, key_of};
 pub use source::{
     Adding, Block, Entry, GlobalForm, Names, PackageBody, Primary, ProcedureBody, ProcedureSpec,
     Sign, Source, Spec, Statement, Sum, Symbol, Term, Variable, Word,

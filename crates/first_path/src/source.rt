@@ -39,7 +39,7 @@ pub enum Symbol {
     Other,
 }
 
-/// `NAME : Integer := NUMBER;`
+/// `NAME : MARK := VALUE;`, of a value of at most 2,147,483,647.
 #[derive(Debug, Drop)]
 pub struct Variable {
     pub name: Word,
@@ -47,12 +47,14 @@ pub struct Variable {
     pub value: u32,
 }
 
+/// An operand: a name, or a number of at most 2,147,483,647.
 #[derive(Debug, Drop)]
 pub enum Primary {
     Name(Word),
     Number(u32),
 }
 
+/// An operator of a sum.
 #[derive(Clone, Copy, Debug, PartialEq, Eq)]
 pub enum Adding {
     Plus,
@@ -66,12 +68,14 @@ pub struct Term {
     pub operand: Primary,
 }
 
+/// An operand, and the terms that follow it.
 #[derive(Debug, Drop)]
 pub struct Sum {
     pub first: Primary,
     pub more: Items<Term>,
 }
 
+/// `null;` or `TARGET := VALUE;`
 #[derive(Debug, Drop)]
 pub enum Statement {
     Null,
@@ -85,6 +89,7 @@ pub struct Block {
     pub more: Items<Statement>,
 }
 
+/// The items of an entry: one name, or names in parentheses.
 #[derive(Debug, Drop)]
 pub enum Names {
     Bare(Word),
@@ -123,6 +128,7 @@ pub struct Spec {
     pub end: Option<Word>,
 }
 
+/// `procedure NAME is begin .. end NAME;`
 #[derive(Debug, Drop)]
 pub struct ProcedureBody {
     pub name: Word,

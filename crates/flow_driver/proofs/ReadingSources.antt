@@ -2,7 +2,7 @@
 use Rattle.std.proofs.Common.{◌≡◌, List, ℕ, Option, Some, None, IfSome, subst}
 use Rattle.std.specs.Prelude.{IfNone}
 use Rattle.core_form.specs.declared.program.Program.{Program}
-use Rattle.first_path.specs.Conditions.{MeetsConditions}
+use Rattle.first_conditions.specs.Conditions.{MeetsConditions}
 use Rattle.first_path.specs.Symbols.{Spells}
 use Rattle.first_path.specs.declared.source.Source.{Source}
 use Rattle.flow_driver.specs.Found.{IsLoweredFrom}

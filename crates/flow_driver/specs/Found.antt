@@ -3,7 +3,7 @@ use Rattle.std.specs.Prelude.{◌≡◌, List, ◌++◌}
 use Rattle.core_form.specs.Fine.{IsWellFormed}
 use Rattle.core_form.specs.declared.program.Program.{Program}
 use Rattle.first_lower.specs.Lowered.{IsLowered}
-use Rattle.first_path.specs.Conditions.{MeetsConditions}
+use Rattle.first_conditions.specs.Conditions.{MeetsConditions}
 use Rattle.first_path.specs.declared.source.Source.{Source}
 use Rattle.spark_messages.specs.declared.messages.Message.{Message}
 

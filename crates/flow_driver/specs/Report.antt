@@ -9,7 +9,7 @@ use Rattle.flow_relations.specs.declared.equation.BodyRow.{BodyRow}
 use Rattle.flow_relations.specs.Equation.{equation}
 use Rattle.flow_relations.specs.Told.{IsRow}
 use Rattle.first_path.specs.declared.source.Source.{Source}
-use Rattle.first_path.specs.Conditions.{MeetsConditions}
+use Rattle.first_conditions.specs.Conditions.{MeetsConditions}
 use Rattle.first_path.specs.Symbols.{Spells}
 use Rattle.first_lower.specs.Lowered.{IsLowered}
 use Rattle.spark_messages.specs.declared.messages.Code.TheVariants as code

@@ -6,6 +6,8 @@ mod global_check;
 pub mod laws;
 mod reading;
 mod report;
+#[cfg(test)]
+mod tests;
 mod top;
 
 pub use driver::{Ending, run};

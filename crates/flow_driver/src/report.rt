@@ -2,15 +2,16 @@ ghost use Rattle.std.specs.Prelude.{◌≡◌, ◌++◌, ◌∷◌, [], ◌+◌,
 ghost use Rattle.std.specs.Option.{option_copied};
 ghost use Rattle.core_form.specs.Fine.{IsWellFormed};
 ghost use Rattle.flow_driver.specs.Report.{IsReading, HasReport, AreFlowMessages, AreBodyMessages, AreMessagesFrom, checked_contract, refusal};
-ghost use Rattle.first_path.specs.Conditions.{MeetsConditions};
+ghost use Rattle.first_conditions.specs.Conditions.{MeetsConditions};
 ghost use Rattle.flow_driver.specs.Found.{Appends, IsLoweredFrom};
 
 use crate::global_check::append_global_messages;
 use spark_messages::message_texts::outside_text;
 use spark_messages::{Code, Kind, Message, ordered};
 use core_form::{Body, Contract, Program};
+use first_conditions::conditions;
 use first_lower::lower;
-use first_path::{Source, conditions, reading_of, sources_are_one};
+use first_path::{Source, reading_of, sources_are_one};
 use flow_relations::row_of_body;
 use spark_base::{BodyNo, Bytes, FileNo, Items, NoMemory, Pos};
 use std::alloc::Global;

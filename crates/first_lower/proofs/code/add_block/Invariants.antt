@@ -1,6 +1,6 @@
 use Rattle.std.proofs.Common.{◌≡◌, ◌<◌, length, drop}
 use Rattle.core_form.specs.Code.{code_of}
-use Rattle.first_path.specs.Conditions.{statements_of}
+use Rattle.first_conditions.specs.Conditions.{statements_of}
 use Rattle.first_lower.specs.Known.{Each, KnownStatement}
 use Rattle.first_lower.specs.Lowered.{low_statements}
 use Rattle.first_lower.specs.Steps.{Adds, codes_before}

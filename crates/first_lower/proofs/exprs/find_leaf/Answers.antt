@@ -1,7 +1,7 @@
 use Rattle.std.proofs.Common.{◌≡◌, ◌∙◌, List, ℕ, None, subst}
 use Rattle.std.specs.Prelude.{position}
 use Rattle.std.specs.Str.{bytes_eq}
-use Rattle.first_path.specs.Conditions.{key}
+use Rattle.first_conditions.specs.Conditions.{key}
 use Rattle.first_lower.proofs.Found.{is_found}
 use Rattle.first_lower.proofs.exprs.find_leaf.Goals as goal
 

@@ -1,5 +1,5 @@
 use Rattle.std.proofs.Common.{◌≡◌, ◌++◌, drop}
-use Rattle.first_path.specs.Conditions.{statements_of}
+use Rattle.first_conditions.specs.Conditions.{statements_of}
 use Rattle.first_lower.specs.Lowered.{assignments_of}
 use Rattle.first_lower.proofs.program.assignments.Given as goal
 

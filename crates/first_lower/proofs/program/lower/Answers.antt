@@ -1,6 +1,6 @@
 use Rattle.std.proofs.Common.{◌≡◌, ℕ, List, length, ap, ◌∙◌, arith}
 use Rattle.std.proofs.lemmas.List.{length-map}
-use Rattle.first_path.specs.Conditions.{key, variable_keys}
+use Rattle.first_conditions.specs.Conditions.{key, variable_keys}
 use Rattle.first_path.specs.declared.source.Source.{Source}
 use Rattle.first_lower.proofs.Knowing.{body_known, global_known}
 use Rattle.first_lower.proofs.Lowering.{lowered}

@@ -1,6 +1,5 @@
-use Rattle.std.proofs.Common.{◌≡◌, ◌∙◌, List, ap, sym}
-use Rattle.ada_lexer.specs.declared.token.Token.{Token}
-use Rattle.first_path.specs.Symbols.{Spells, symbols}
+use Rattle.std.proofs.Common.{◌≡◌, ◌∙◌, ap, sym}
+use Rattle.first_path.specs.Symbols.{symbols}
 use Rattle.first_path.proofs.One.{one_source}
 use Rattle.first_path.proofs.laws.sources_are_one.Goals as goal
 

@@ -1,0 +1,211 @@
+ghost use Rattle.std.specs.Prelude.{◌≡◌, [], ◌∷◌, ◌++◌, map, is_some, IfNone, IfOk, IfSome, IsTrue};
+ghost use Rattle.std.specs.List.{flat_map};
+ghost use Rattle.first_conditions.specs.Checks.{are_items, are_known, are_new, keys_of};
+ghost use Rattle.first_conditions.specs.Conditions.{AreDistinct, block_words, is_known, item_words, key, primary_words, statement_words, sum_words, variable_keys, words_of};
+
+use crate::names::{KeyTable, key_of};
+use first_path::{
+    Block, Entry, GlobalForm, Names, Primary, Spec, Statement, Sum, Term, Variable, Word,
+};
+use spark_base::NoMemory;
+use std::alloc::Global;
+
+/// Whether a word is known.
+fn knows_word(alloc: Global, known: &KeyTable, word: &Word) -> Result<bool, NoMemory>
+    ensures { IfOk result (λ b. b ≡ is_known known.now (key word.now)) }
+{
+    let key = key_of(alloc, word)?;
+    Ok(known.knows(key.as_slice()))
+}
+
+/// Whether an operand, if it is a name, is known.
+fn knows_primary(alloc: Global, known: &KeyTable, primary: &Primary) -> Result<bool, NoMemory>
+    ensures { IfOk result (λ b. b ≡ are_known known.now (primary_words primary.now)) }
+{
+    match primary {
+        Primary::Name(word) => knows_word(alloc, known, word),
+        Primary::Number(_) => Ok(true),
+    }
+}
+
+/// Whether the names of further terms are known.
+fn knows_terms(alloc: Global, known: &KeyTable, terms: &[Term]) -> Result<bool, NoMemory>
+    ensures { IfOk result (λ b. b ≡ are_known known.now (flat_map (λ t. primary_words t.operand) terms.now)) }
+{
+    for term in terms {
+        if !knows_primary(alloc, known, &term.operand)? {
+            return Ok(false);
+        }
+    }
+    Ok(true)
+}
+
+/// Whether the names of a sum are known.
+fn knows_sum(alloc: Global, known: &KeyTable, sum: &Sum) -> Result<bool, NoMemory>
+    ensures { IfOk result (λ b. b ≡ are_known known.now (sum_words sum.now)) }
+{
+    if !knows_primary(alloc, known, &sum.first)? {
+        return Ok(false);
+    }
+    knows_terms(alloc, known, sum.more.as_slice())
+}
+
+/// Whether the names of a statement are known.
+fn knows_statement(alloc: Global, known: &KeyTable, statement: &Statement) -> Result<bool, NoMemory>
+    ensures { IfOk result (λ b. b ≡ are_known known.now (statement_words statement.now)) }
+{
+    match statement {
+        Statement::Null => Ok(true),
+        Statement::Assign { target, value } => {
+            if !knows_word(alloc, known, target)? {
+                return Ok(false);
+            }
+            knows_sum(alloc, known, value)
+        }
+    }
+}
+
+/// Whether the names of statements are known.
+fn knows_statements(
+    alloc: Global,
+    known: &KeyTable,
+    statements: &[Statement],
+) -> Result<bool, NoMemory>
+    ensures { IfOk result (λ b. b ≡ are_known known.now (flat_map statement_words statements.now)) }
+{
+    for statement in statements {
+        if !knows_statement(alloc, known, statement)? {
+            return Ok(false);
+        }
+    }
+    Ok(true)
+}
+
+/// Whether the names of a block are known.
+pub fn knows_block(alloc: Global, known: &KeyTable, block: &Block) -> Result<bool, NoMemory>
+    ensures { IfOk result (λ b. b ≡ are_known known.now (block_words block.now)) }
+{
+    if !knows_statement(alloc, known, &block.first)? {
+        return Ok(false);
+    }
+    knows_statements(alloc, known, block.more.as_slice())
+}
+
+/// Adds a name of a Global, if it is known and new to the table: false says that it is not.
+fn add_item(
+    alloc: Global,
+    known: &KeyTable,
+    seen: &mut KeyTable,
+    word: &Word,
+) -> Result<bool, NoMemory>
+    ensures item { IfOk result (λ b. b ≡ are_items known.now seen.old (word.now ∷ [])) }
+    ensures seen { IfOk result (λ b. IsTrue b → seen.new ≡ seen.old ++ key word.now ∷ []) }
+{
+    let key = key_of(alloc, word)?;
+    if !known.knows(key.as_slice()) {
+        return Ok(false);
+    }
+    seen.add(key)
+}
+
+/// Adds further names of an entry.
+fn add_items(
+    alloc: Global,
+    known: &KeyTable,
+    seen: &mut KeyTable,
+    words: &[Word],
+) -> Result<bool, NoMemory>
+    ensures items { IfOk result (λ b. b ≡ are_items known.now seen.old words.now) }
+    ensures seen { IfOk result (λ b. IsTrue b → seen.new ≡ seen.old ++ map key words.now) }
+{
+    for word in words {
+        if !add_item(alloc, known, seen, word)? {
+            return Ok(false);
+        }
+    }
+    Ok(true)
+}
+
+/// Adds the names of an entry.
+fn add_names(
+    alloc: Global,
+    known: &KeyTable,
+    seen: &mut KeyTable,
+    names: &Names,
+) -> Result<bool, NoMemory>
+    ensures items { IfOk result (λ b. b ≡ are_items known.now seen.old (words_of names.now)) }
+    ensures seen { IfOk result (λ b. IsTrue b → seen.new ≡ seen.old ++ map key (words_of names.now)) }
+{
+    match names {
+        Names::Bare(word) => add_item(alloc, known, seen, word),
+        Names::Listed { first, more } => {
+            if !add_item(alloc, known, seen, first)? {
+                return Ok(false);
+            }
+            add_items(alloc, known, seen, more.as_slice())
+        }
+    }
+}
+
+/// Adds the names of further entries.
+fn add_entries(
+    alloc: Global,
+    known: &KeyTable,
+    seen: &mut KeyTable,
+    entries: &[Entry],
+) -> Result<bool, NoMemory>
+    ensures items { IfOk result (λ b. b ≡ are_items known.now seen.old (flat_map (λ e. words_of e.names) entries.now)) }
+{
+    for entry in entries {
+        if !add_names(alloc, known, seen, &entry.names)? {
+            return Ok(false);
+        }
+    }
+    Ok(true)
+}
+
+/// Whether the items of a Global are known, each once.
+#[tactic(auto, using(crate::proofs::Items::items_append))]
+pub fn lists_items(alloc: Global, known: &KeyTable, global: &GlobalForm) -> Result<bool, NoMemory>
+    ensures { IfOk result (λ b. b ≡ are_items known.now [] (item_words global.now)) }
+{
+    match global {
+        GlobalForm::Null => Ok(true),
+        GlobalForm::Entries { first, more } => {
+            let mut seen = KeyTable::new(alloc);
+            if !add_names(alloc, known, &mut seen, &first.names)? {
+                return Ok(false);
+            }
+            add_entries(alloc, known, &mut seen, more.as_slice())
+        }
+    }
+}
+
+/// The keys of variables, in their order, and none where one comes twice.
+fn keys_of_variables(alloc: Global, variables: &[Variable]) -> Result<Option<KeyTable>, NoMemory>
+    ensures keys { IfOk result (λ r. IfSome r (λ t. t ≡ variable_keys variables.now)) }
+    ensures new { IfOk result (λ r. is_some r ≡ are_new [] (variable_keys variables.now)) }
+{
+    let mut table = KeyTable::new(alloc);
+    for variable in variables {
+        if !table.add(key_of(alloc, &variable.name)?)? {
+            return Ok(None);
+        }
+    }
+    Ok(Some(table))
+}
+
+/// The keys of a spec's variables, in their order, and none where a declared name comes twice.
+#[tactic(auto, using(crate::proofs::Distinct::distinct_when_new, crate::proofs::Distinct::new_when_distinct))]
+pub fn declared(alloc: Global, spec: &Spec) -> Result<Option<KeyTable>, NoMemory>
+    ensures some { IfOk result (λ r. IfSome r (λ t. AreDistinct (keys_of spec.now) × (t ≡ variable_keys spec.now.variables))) }
+    ensures none { IfOk result (λ r. IfNone r (AreDistinct (keys_of spec.now) → ⊥)) }
+{
+    let Some(table) = keys_of_variables(alloc, spec.variables.as_slice())? else {
+        return Ok(None);
+    };
+    if knows_word(alloc, &table, &spec.procedure.name)? {
+        return Ok(None);
+    }
+    Ok(Some(table))
+}

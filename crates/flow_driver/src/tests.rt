@@ -1,0 +1,224 @@
+// What the top call prints and answers, over files and sinks in memory.
+use crate::run_words;
+use source_io::{MemoryFiles, MemorySink, Open};
+use spark_base::Bytes;
+use std::alloc::Global;
+use std::test::Fail;
+
+/// The counter: its Global says how it is used.
+const COUNTER: &str = "package Counter is
+   Count : Integer := 0;
+   procedure Inc with Global => (In_Out => Count);
+end Counter;
+package body Counter is
+   procedure Inc is
+   begin
+      Count := Count + 1;
+   end Inc;
+end Counter;
+";
+
+/// The counter with an input that is written.
+const WRITTEN_INPUT: &str = "package Counter is
+   Count : Integer := 0;
+   procedure Inc with Global => (Input => Count);
+end Counter;
+package body Counter is
+   procedure Inc is
+   begin
+      Count := Count + 1;
+   end Inc;
+end Counter;
+";
+
+/// The counter with an output that is read.
+const READ_OUTPUT: &str = "package Counter is
+   Count : Integer := 0;
+   procedure Inc with Global => (Output => Count);
+end Counter;
+package body Counter is
+   procedure Inc is
+   begin
+      Count := Count + 1;
+   end Inc;
+end Counter;
+";
+
+/// The counter with nothing listed.
+const UNLISTED: &str = "package Counter is
+   Count : Integer := 0;
+   procedure Inc with Global => null;
+end Counter;
+package body Counter is
+   procedure Inc is
+   begin
+      Count := Count + 1;
+   end Inc;
+end Counter;
+";
+
+/// Three variables that are not listed, each used in another way, and a statement that does nothing.
+const USED: &str = "package P is
+   X : Integer := 1; Y : Integer := 2; Z : Integer := 3;
+   procedure Q with Global => null;
+end P;
+package body P is
+   procedure Q is
+   begin
+      null;
+      Y := X - 7;
+      Z := Z;
+   end Q;
+end P;
+";
+
+/// A procedure with a formal: outside the first path.
+const OUTSIDE: &str = "package P is
+   procedure Q (A : in Integer; R : out Integer);
+end P;
+";
+
+fn words_of(alloc: Global, list: &[&str]) -> Result<Vec<String>, Fail> {
+    let mut words = Vec::new(alloc);
+    for word in list {
+        words.push(String::from_str(alloc, word)?)?;
+    }
+    Ok(words)
+}
+
+fn file_of(alloc: Global, source: &str, failing: &[u32]) -> Result<MemoryFiles, Fail> {
+    let mut list = Vec::new(alloc);
+    let name = Bytes::from_vec(Vec::from_slice(alloc, b"inc.ada")?);
+    let bytes = Bytes::from_vec(Vec::from_slice(alloc, source.as_bytes())?);
+    list.push((name, bytes))?;
+    Ok(MemoryFiles::new(
+        alloc,
+        list,
+        Vec::from_slice(alloc, failing)?,
+    ))
+}
+
+/// What a call answered, and what it put on its sinks.
+#[derive(Drop)]
+struct Answer {
+    status: u8,
+    out: MemorySink,
+    err: MemorySink,
+}
+
+/// Calls `run_words` on one file, `inc.ada`, with a sink that takes so many bytes.
+fn answer(
+    alloc: Global,
+    source: &str,
+    failing: &[u32],
+    words: &[&str],
+    stop: Option<usize>,
+) -> Result<Answer, Fail> {
+    let words = words_of(alloc, words)?;
+    let mut files = file_of(alloc, source, failing)?;
+    let mut out = MemorySink::new(alloc, stop);
+    let mut err = MemorySink::new(alloc, None);
+    let status = run_words(
+        alloc,
+        words.as_slice(),
+        &mut files,
+        &mut out,
+        &mut err,
+        &Open,
+    );
+    Ok(Answer { status, out, err })
+}
+
+/// A source, and what is printed of it.
+fn printed(alloc: Global, source: &str) -> Result<Answer, Fail> {
+    answer(alloc, source, &[], &["inc.ada"], None)
+}
+
+#[test]
+fn counter_is_accepted(rt: HostRuntime) -> Result<(), Fail> {
+    let got = printed(rt.alloc(), COUNTER)?;
+    assert_eq!(rt; got.status, 0);
+    assert_eq!(rt; got.out.as_slice(), b"sparkflow: 0 errors, 0 warnings\n".as_slice());
+    assert_eq!(rt; got.err.as_slice(), b"".as_slice());
+    Ok(())
+}
+
+#[test]
+fn input_that_is_written(rt: HostRuntime) -> Result<(), Fail> {
+    let got = printed(rt.alloc(), WRITTEN_INPUT)?;
+    let want = b"inc.ada:3:43: error: \"Counter.Count\" is Input but \"Counter.Inc\" writes it [G02]\nsparkflow: 1 errors, 0 warnings\n";
+    assert_eq!(rt; got.status, 1);
+    assert_eq!(rt; got.out.as_slice(), want.as_slice());
+    Ok(())
+}
+
+#[test]
+fn output_that_is_read(rt: HostRuntime) -> Result<(), Fail> {
+    let got = printed(rt.alloc(), READ_OUTPUT)?;
+    let want = b"inc.ada:3:44: error: \"Counter.Count\" is Output but \"Counter.Inc\" may read its initial value or leave it; it must be In_Out [G03]\nsparkflow: 1 errors, 0 warnings\n";
+    assert_eq!(rt; got.status, 1);
+    assert_eq!(rt; got.out.as_slice(), want.as_slice());
+    Ok(())
+}
+
+#[test]
+fn global_that_lists_nothing(rt: HostRuntime) -> Result<(), Fail> {
+    let got = printed(rt.alloc(), UNLISTED)?;
+    let want = b"inc.ada:6:14: error: \"Counter.Count\" is In_Out in \"Counter.Inc\" but its Global does not list it [G01]\nsparkflow: 1 errors, 0 warnings\n";
+    assert_eq!(rt; got.status, 1);
+    assert_eq!(rt; got.out.as_slice(), want.as_slice());
+    Ok(())
+}
+
+#[test]
+fn used_modes_in_order(rt: HostRuntime) -> Result<(), Fail> {
+    let got = printed(rt.alloc(), USED)?;
+    let want = b"inc.ada:6:14: error: \"P.X\" is Input in \"P.Q\" but its Global does not list it [G01]\ninc.ada:6:14: error: \"P.Y\" is Output in \"P.Q\" but its Global does not list it [G01]\ninc.ada:6:14: error: \"P.Z\" is In_Out in \"P.Q\" but its Global does not list it [G01]\nsparkflow: 3 errors, 0 warnings\n";
+    assert_eq!(rt; got.status, 1);
+    assert_eq!(rt; got.out.as_slice(), want.as_slice());
+    Ok(())
+}
+
+#[test]
+fn source_outside_the_subset(rt: HostRuntime) -> Result<(), Fail> {
+    let want = b"inc.ada:1:1: refused: \"source\" is outside the subset [U01]\nsparkflow: 1 errors, 0 warnings\n";
+    for source in [OUTSIDE, "", "\n", "package"] {
+        let got = printed(rt.alloc(), source)?;
+        assert_eq!(rt; got.status, 2);
+        assert_eq!(rt; got.out.as_slice(), want.as_slice());
+    }
+    Ok(())
+}
+
+#[test]
+fn sink_that_stops_after_ten_bytes(rt: HostRuntime) -> Result<(), Fail> {
+    let got = answer(rt.alloc(), WRITTEN_INPUT, &[], &["inc.ada"], Some(10))?;
+    assert_eq!(rt; got.status, 5);
+    assert_eq!(rt; got.out.as_slice(), b"inc.ada:3:".as_slice());
+    assert_eq!(rt; got.err.as_slice(), b"sparkflow: write failed\n".as_slice());
+    Ok(())
+}
+
+#[test]
+fn words_that_are_refused(rt: HostRuntime) -> Result<(), Fail> {
+    let lists: [&[&str]; 3] = [&["-x"], &[], &["inc.ada", "inc.ada"]];
+    for words in lists {
+        let got = answer(rt.alloc(), COUNTER, &[], words, None)?;
+        assert_eq!(rt; got.status, 3);
+        assert_eq!(rt; got.out.as_slice(), b"".as_slice());
+        assert_eq!(rt; got.err.as_slice(), b"sparkflow: words refused\n".as_slice());
+    }
+    Ok(())
+}
+
+#[test]
+fn file_that_cannot_be_read(rt: HostRuntime) -> Result<(), Fail> {
+    let absent = answer(rt.alloc(), COUNTER, &[], &["b.ada"], None)?;
+    assert_eq!(rt; absent.status, 4);
+    assert_eq!(rt; absent.out.as_slice(), b"".as_slice());
+    assert_eq!(rt; absent.err.as_slice(), b"sparkflow: cannot read b.ada\n".as_slice());
+    let failing = answer(rt.alloc(), COUNTER, &[1], &["inc.ada"], None)?;
+    assert_eq!(rt; failing.status, 4);
+    assert_eq!(rt; failing.err.as_slice(), b"sparkflow: cannot read inc.ada\n".as_slice());
+    Ok(())
+}
