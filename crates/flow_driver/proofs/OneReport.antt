@@ -10,7 +10,7 @@ use Rattle.core_form.specs.declared.program.Program.{Program}
 use Rattle.flow_relations.specs.Equation.{equation}
 use Rattle.flow_relations.specs.Flow.{Summary}
 use Rattle.flow_relations.specs.Told.{IsRow}
-use Rattle.first_path.specs.Conditions.{variable_keys}
+use Rattle.first_conditions.specs.Conditions.{variable_keys}
 use Rattle.first_path.specs.Symbols.{Spells, symbols}
 use Rattle.first_path.specs.declared.source.Source.{Source}
 use Rattle.first_path.proofs.One.{one_source}
