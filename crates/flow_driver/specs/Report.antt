@@ -1,7 +1,6 @@
 -- The report of a source: its refusal, or else the messages of the flow.
 use Rattle.std.specs.Prelude.{◌≡◌, ℕ, ◌+◌, ◌++◌, true, false, List, [], ◌∷◌, Option, Some, None, codes}
 use Rattle.std.specs.List.Sorted.{IsStrictlySortedBy}
-use Rattle.spark_base.specs.declared.numbers.FileNo.{FileNo}
 use Rattle.core_form.specs.declared.contract.Contract.{Contract}
 use Rattle.core_form.specs.declared.program.Body.{Body}
 use Rattle.core_form.specs.declared.program.Program.{Program}

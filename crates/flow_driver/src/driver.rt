@@ -3,10 +3,10 @@ ghost use Rattle.source_io.specs.Counts.{Rose, Grew};
 ghost use Rattle.flow_driver.specs.Run.{has_errors, verdict, are_accepted, IsCountedBy, IsPrinted, IsPartlyPrinted, GrewByPart, Complains};
 ghost use Rattle.flow_driver.specs.Ending.{Prints, IsStatus, CountsReadFault, CountsWriteFault, AsksNames};
 
-use spark_messages::{Message, text_of};
 use crate::{ReadFault, Report, read_all, report_of};
 use source_io::{Files, PrintFault, Sink, print_into};
 use spark_base::{Bytes, Items};
+use spark_messages::{Message, text_of};
 use std::alloc::Global;
 
 /// How a run ended.

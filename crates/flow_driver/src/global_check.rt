@@ -7,12 +7,14 @@ ghost use Rattle.flow_relations.specs.Told.{AreRowsSized};
 ghost use Rattle.flow_driver.specs.GlobalCheck as spec;
 ghost use Rattle.flow_driver.specs.GlobalCheck.{has, some_leaf, some_of, stays, mode_used};
 
-use spark_messages::message_texts::{UsedMode, read_output_text, unlisted_text, written_input_text};
-use spark_messages::{Code, Kind, Message};
 use core_form::{Body, Contract, GlobalItem, Item, Mode, Program, Var};
 use flow_relations::BodyRow;
 use flow_relations::rows::Row;
 use spark_base::{Bytes, ItemNo, Items, NoMemory, Span};
+use spark_messages::message_texts::{
+    UsedMode, read_output_text, unlisted_text, written_input_text,
+};
+use spark_messages::{Code, Kind, Message};
 use std::alloc::Global;
 
 /// Whether a leaf is in the set.

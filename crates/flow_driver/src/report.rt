@@ -6,14 +6,14 @@ ghost use Rattle.first_conditions.specs.Conditions.{MeetsConditions};
 ghost use Rattle.flow_driver.specs.Found.{Appends, IsLoweredFrom};
 
 use crate::global_check::append_global_messages;
-use spark_messages::message_texts::outside_text;
-use spark_messages::{Code, Kind, Message, ordered};
 use core_form::{Body, Contract, Program};
 use first_conditions::conditions;
 use first_lower::lower;
 use first_path::{Source, reading_of, sources_are_one};
 use flow_relations::row_of_body;
 use spark_base::{BodyNo, Bytes, FileNo, Items, NoMemory, Pos};
+use spark_messages::message_texts::outside_text;
+use spark_messages::{Code, Kind, Message, ordered};
 use std::alloc::Global;
 
 /// The most bytes that a file may have.
@@ -98,7 +98,13 @@ fn messages_found(alloc: Global, program: &Program) -> Result<Items<Message>, No
     }
     let mut list = Items::new(alloc);
     for b in 0..count {
-        append_body_messages(alloc, &mut list, program, BodyNo(b as u32), program.bodies.at(b))?;
+        append_body_messages(
+            alloc,
+            &mut list,
+            program,
+            BodyNo(b as u32),
+            program.bodies.at(b),
+        )?;
     }
     Ok(list)
 }

@@ -91,11 +91,7 @@ fn file_of(alloc: Global, source: &str, failing: &[u32]) -> Result<MemoryFiles, 
     let name = Bytes::from_vec(Vec::from_slice(alloc, b"inc.ada")?);
     let bytes = Bytes::from_vec(Vec::from_slice(alloc, source.as_bytes())?);
     list.push((name, bytes))?;
-    Ok(MemoryFiles::new(
-        alloc,
-        list,
-        Vec::from_slice(alloc, failing)?,
-    ))
+    Ok(MemoryFiles::new(alloc, list, Vec::from_slice(alloc, failing)?))
 }
 
 /// What a call answered, and what it put on its sinks.
@@ -138,7 +134,10 @@ fn printed(alloc: Global, source: &str) -> Result<Answer, Fail> {
 fn counter_is_accepted(rt: HostRuntime) -> Result<(), Fail> {
     let got = printed(rt.alloc(), COUNTER)?;
     assert_eq!(rt; got.status, 0);
-    assert_eq!(rt; got.out.as_slice(), b"sparkflow: 0 errors, 0 warnings\n".as_slice());
+    assert_eq!(rt;
+        got.out.as_slice(),
+        b"sparkflow: 0 errors, 0 warnings\n".as_slice()
+    );
     assert_eq!(rt; got.err.as_slice(), b"".as_slice());
     Ok(())
 }
@@ -146,7 +145,8 @@ fn counter_is_accepted(rt: HostRuntime) -> Result<(), Fail> {
 #[test]
 fn input_that_is_written(rt: HostRuntime) -> Result<(), Fail> {
     let got = printed(rt.alloc(), WRITTEN_INPUT)?;
-    let want = b"inc.ada:3:43: error: \"Counter.Count\" is Input but \"Counter.Inc\" writes it [G02]\nsparkflow: 1 errors, 0 warnings\n";
+    let want =
+        b"inc.ada:3:43: error: \"Counter.Count\" is Input but \"Counter.Inc\" writes it [G02]\nsparkflow: 1 errors, 0 warnings\n";
     assert_eq!(rt; got.status, 1);
     assert_eq!(rt; got.out.as_slice(), want.as_slice());
     Ok(())
@@ -155,7 +155,8 @@ fn input_that_is_written(rt: HostRuntime) -> Result<(), Fail> {
 #[test]
 fn output_that_is_read(rt: HostRuntime) -> Result<(), Fail> {
     let got = printed(rt.alloc(), READ_OUTPUT)?;
-    let want = b"inc.ada:3:44: error: \"Counter.Count\" is Output but \"Counter.Inc\" may read its initial value or leave it; it must be In_Out [G03]\nsparkflow: 1 errors, 0 warnings\n";
+    let want =
+        b"inc.ada:3:44: error: \"Counter.Count\" is Output but \"Counter.Inc\" may read its initial value or leave it; it must be In_Out [G03]\nsparkflow: 1 errors, 0 warnings\n";
     assert_eq!(rt; got.status, 1);
     assert_eq!(rt; got.out.as_slice(), want.as_slice());
     Ok(())
@@ -164,7 +165,8 @@ fn output_that_is_read(rt: HostRuntime) -> Result<(), Fail> {
 #[test]
 fn global_that_lists_nothing(rt: HostRuntime) -> Result<(), Fail> {
     let got = printed(rt.alloc(), UNLISTED)?;
-    let want = b"inc.ada:6:14: error: \"Counter.Count\" is In_Out in \"Counter.Inc\" but its Global does not list it [G01]\nsparkflow: 1 errors, 0 warnings\n";
+    let want =
+        b"inc.ada:6:14: error: \"Counter.Count\" is In_Out in \"Counter.Inc\" but its Global does not list it [G01]\nsparkflow: 1 errors, 0 warnings\n";
     assert_eq!(rt; got.status, 1);
     assert_eq!(rt; got.out.as_slice(), want.as_slice());
     Ok(())
@@ -173,7 +175,8 @@ fn global_that_lists_nothing(rt: HostRuntime) -> Result<(), Fail> {
 #[test]
 fn used_modes_in_order(rt: HostRuntime) -> Result<(), Fail> {
     let got = printed(rt.alloc(), USED)?;
-    let want = b"inc.ada:6:14: error: \"P.X\" is Input in \"P.Q\" but its Global does not list it [G01]\ninc.ada:6:14: error: \"P.Y\" is Output in \"P.Q\" but its Global does not list it [G01]\ninc.ada:6:14: error: \"P.Z\" is In_Out in \"P.Q\" but its Global does not list it [G01]\nsparkflow: 3 errors, 0 warnings\n";
+    let want =
+        b"inc.ada:6:14: error: \"P.X\" is Input in \"P.Q\" but its Global does not list it [G01]\ninc.ada:6:14: error: \"P.Y\" is Output in \"P.Q\" but its Global does not list it [G01]\ninc.ada:6:14: error: \"P.Z\" is In_Out in \"P.Q\" but its Global does not list it [G01]\nsparkflow: 3 errors, 0 warnings\n";
     assert_eq!(rt; got.status, 1);
     assert_eq!(rt; got.out.as_slice(), want.as_slice());
     Ok(())
@@ -181,7 +184,8 @@ fn used_modes_in_order(rt: HostRuntime) -> Result<(), Fail> {
 
 #[test]
 fn source_outside_the_subset(rt: HostRuntime) -> Result<(), Fail> {
-    let want = b"inc.ada:1:1: refused: \"source\" is outside the subset [U01]\nsparkflow: 1 errors, 0 warnings\n";
+    let want =
+        b"inc.ada:1:1: refused: \"source\" is outside the subset [U01]\nsparkflow: 1 errors, 0 warnings\n";
     for source in [OUTSIDE, "", "\n", "package"] {
         let got = printed(rt.alloc(), source)?;
         assert_eq!(rt; got.status, 2);
@@ -206,7 +210,10 @@ fn words_that_are_refused(rt: HostRuntime) -> Result<(), Fail> {
         let got = answer(rt.alloc(), COUNTER, &[], words, None)?;
         assert_eq!(rt; got.status, 3);
         assert_eq!(rt; got.out.as_slice(), b"".as_slice());
-        assert_eq!(rt; got.err.as_slice(), b"sparkflow: words refused\n".as_slice());
+        assert_eq!(rt;
+            got.err.as_slice(),
+            b"sparkflow: words refused\n".as_slice()
+        );
     }
     Ok(())
 }
@@ -216,9 +223,15 @@ fn file_that_cannot_be_read(rt: HostRuntime) -> Result<(), Fail> {
     let absent = answer(rt.alloc(), COUNTER, &[], &["b.ada"], None)?;
     assert_eq!(rt; absent.status, 4);
     assert_eq!(rt; absent.out.as_slice(), b"".as_slice());
-    assert_eq!(rt; absent.err.as_slice(), b"sparkflow: cannot read b.ada\n".as_slice());
+    assert_eq!(rt;
+        absent.err.as_slice(),
+        b"sparkflow: cannot read b.ada\n".as_slice()
+    );
     let failing = answer(rt.alloc(), COUNTER, &[1], &["inc.ada"], None)?;
     assert_eq!(rt; failing.status, 4);
-    assert_eq!(rt; failing.err.as_slice(), b"sparkflow: cannot read inc.ada\n".as_slice());
+    assert_eq!(rt;
+        failing.err.as_slice(),
+        b"sparkflow: cannot read inc.ada\n".as_slice()
+    );
     Ok(())
 }

@@ -1,9 +1,8 @@
-use Rattle.std.proofs.Common.{◌≡◌, ℕ, suc, ◌+◌, ◌<◌, ◌∷◌, length, drop, get_or, add-one, arith}
+use Rattle.std.proofs.Common.{◌≡◌, ◌+◌, ◌<◌, ◌∷◌, length, drop, get_or, add-one, arith}
 use Rattle.std.proofs.Math.Seq.{drop-cons}
 use Rattle.core_form.specs.declared.contract.GlobalItem.{GlobalItem}
 use Rattle.core_form.specs.declared.contract.Mode.TheVariants as modes
 use Rattle.flow_relations.specs.Sets.{Has}
-use Rattle.flow_driver.specs.GlobalCheck.{is_listed}
 use Rattle.flow_driver.proofs.Leaves.{listed_more}
 use Rattle.flow_driver.proofs.global_check.listed_items.Goals as goal
 

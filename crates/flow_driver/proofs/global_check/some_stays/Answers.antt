@@ -1,6 +1,6 @@
-use Rattle.std.proofs.Common.{◌≡◌, ◌∙◌, sym, true}
+use Rattle.std.proofs.Common.{◌∙◌, sym}
 use Rattle.flow_driver.specs.GlobalCheck.{stays}
-use Rattle.flow_driver.proofs.Leaves.{one_passed, one_found}
+use Rattle.flow_driver.proofs.Leaves.{one_passed}
 use Rattle.flow_driver.proofs.global_check.some_stays.Goals as goal
 
 pub loop-i-preserved : goal.loop-i-preserved

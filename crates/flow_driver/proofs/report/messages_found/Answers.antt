@@ -1,4 +1,4 @@
-use Rattle.std.proofs.Common.{◌≡◌, ◌∙◌, List, [], ◌∷◌, ◌++◌, ◌+◌, ℕ, length, drop, refl, sym, subst, append_assoc, append-nil, arith}
+use Rattle.std.proofs.Common.{◌≡◌, List, [], ◌∷◌, ◌++◌, ◌+◌, drop, refl, sym, subst, append_assoc, append-nil, arith}
 use Rattle.core_form.specs.declared.program.Body.{Body}
 use Rattle.spark_messages.specs.declared.messages.Message.{Message}
 use Rattle.flow_driver.specs.Report.{AreMessagesFrom}

@@ -1,4 +1,4 @@
-use Rattle.std.proofs.Common.{◌≡◌, List, ◌++◌, drop}
+use Rattle.std.proofs.Common.{List, ◌++◌, drop}
 use Rattle.spark_messages.specs.declared.messages.Message.{Message}
 use Rattle.flow_driver.specs.Report.{AreMessagesFrom}
 use Rattle.flow_driver.proofs.report.messages_found.Given as goal

@@ -1,4 +1,3 @@
-use Rattle.std.proofs.Common.{◌≡◌}
 use Rattle.flow_driver.proofs.ReadingSources.{read_one}
 use Rattle.flow_driver.proofs.report.read_program.Goals as goal
 
