@@ -103,7 +103,7 @@ struct Answer {
 }
 
 /// Calls `run_words` on one file, `inc.ada`, with a sink that takes so many bytes.
-fn answer(
+fn call(
     alloc: Global,
     source: &str,
     failing: &[u32],
@@ -127,7 +127,7 @@ fn answer(
 
 /// A source, and what is printed of it.
 fn printed(alloc: Global, source: &str) -> Result<Answer, Fail> {
-    answer(alloc, source, &[], &["inc.ada"], None)
+    call(alloc, source, &[], &["inc.ada"], None)
 }
 
 #[test]
@@ -196,7 +196,7 @@ fn source_outside_the_subset(rt: HostRuntime) -> Result<(), Fail> {
 
 #[test]
 fn sink_that_stops_after_ten_bytes(rt: HostRuntime) -> Result<(), Fail> {
-    let got = answer(rt.alloc(), WRITTEN_INPUT, &[], &["inc.ada"], Some(10))?;
+    let got = call(rt.alloc(), WRITTEN_INPUT, &[], &["inc.ada"], Some(10))?;
     assert_eq!(rt; got.status, 5);
     assert_eq!(rt; got.out.as_slice(), b"inc.ada:3:".as_slice());
     assert_eq!(rt; got.err.as_slice(), b"sparkflow: write failed\n".as_slice());
@@ -207,7 +207,7 @@ fn sink_that_stops_after_ten_bytes(rt: HostRuntime) -> Result<(), Fail> {
 fn words_that_are_refused(rt: HostRuntime) -> Result<(), Fail> {
     let lists: [&[&str]; 3] = [&["-x"], &[], &["inc.ada", "inc.ada"]];
     for words in lists {
-        let got = answer(rt.alloc(), COUNTER, &[], words, None)?;
+        let got = call(rt.alloc(), COUNTER, &[], words, None)?;
         assert_eq!(rt; got.status, 3);
         assert_eq!(rt; got.out.as_slice(), b"".as_slice());
         assert_eq!(rt;
@@ -220,14 +220,14 @@ fn words_that_are_refused(rt: HostRuntime) -> Result<(), Fail> {
 
 #[test]
 fn file_that_cannot_be_read(rt: HostRuntime) -> Result<(), Fail> {
-    let absent = answer(rt.alloc(), COUNTER, &[], &["b.ada"], None)?;
+    let absent = call(rt.alloc(), COUNTER, &[], &["b.ada"], None)?;
     assert_eq!(rt; absent.status, 4);
     assert_eq!(rt; absent.out.as_slice(), b"".as_slice());
     assert_eq!(rt;
         absent.err.as_slice(),
         b"sparkflow: cannot read b.ada\n".as_slice()
     );
-    let failing = answer(rt.alloc(), COUNTER, &[1], &["inc.ada"], None)?;
+    let failing = call(rt.alloc(), COUNTER, &[1], &["inc.ada"], None)?;
     assert_eq!(rt; failing.status, 4);
     assert_eq!(rt;
         failing.err.as_slice(),
