@@ -555,33 +555,3 @@ pub fn outside_text(alloc: Global, word: &[u8]) -> Result<Bytes, NoMemory>
 {
     quoted_then(alloc, word, b" is outside the subset")
 }
-
-#[cfg(test)]
-mod tests {
-    use super::*;
-    use std::test::Fail;
-
-    #[test]
-    fn texts_name_what_they_are_about(rt: HostRuntime) -> Result<(), Fail> {
-        let alloc = rt.alloc();
-        let outside = outside_text(alloc, b"pragma")?;
-        assert_eq!(rt;
-            outside.as_slice(),
-            b"\"pragma\" is outside the subset".as_slice()
-        );
-        let unlisted = unlisted_text(alloc, b"X", UsedMode::InOut, b"P.Inc")?;
-        let want = b"\"X\" is In_Out in \"P.Inc\" but its Global does not list it";
-        assert_eq!(rt; unlisted.as_slice(), want.as_slice());
-        let written = written_input_text(alloc, b"X", b"P.Inc")?;
-        assert_eq!(rt;
-            written.as_slice(),
-            b"\"X\" is Input but \"P.Inc\" writes it".as_slice()
-        );
-        let read = read_output_text(alloc, b"X", b"P.Inc")?;
-        assert_eq!(rt;
-            read.as_slice(),
-            b"\"X\" is Output but \"P.Inc\" may read its initial value or leave it; it must be In_Out".as_slice()
-        );
-        Ok(())
-    }
-}
