@@ -5,4 +5,7 @@ mod code_order;
 pub mod message_texts;
 pub mod messages;
 
-pub use messages::{Code, Kind, Message, ordered, text_of};
+pub use messages::{Code, Kind, Message, PhaseFault, ordered, text_of};
+
+#[cfg(test)]
+mod tests;
