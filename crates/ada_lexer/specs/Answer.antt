@@ -2,7 +2,7 @@
 use Rattle.std.specs.Prelude.{◌≡◌, ◌<◌, ◌≤◌, ℕ, List, Result, Ok, Err}
 use Rattle.ada_lexer.specs.declared.piece.Fault.{Fault}
 use Rattle.ada_lexer.specs.declared.piece.Piece.{Piece}
-use Rattle.ada_lexer.specs.declared.token.Token.{Token}
+use Rattle.ada_tree.specs.declared.token.Token.{Token}
 use Rattle.ada_lexer.specs.declared.refusal.Refusal.{Refusal}
 use Rattle.ada_lexer.specs.declared.refusal.LexFault.{LexFault}
 use Rattle.ada_lexer.specs.declared.refusal.LexFault.TheVariants.{Refused, NoMemory}

@@ -2,17 +2,17 @@
 use Rattle.std.specs.Prelude.{ℕ, zero, suc, ◌+◌, ◌-◌, ◌*◌, ◌^◌, Bool, true, false, if◌then◌else◌, nat_eq, nat_lt, nat_le, List, [], ◌∷◌, ◌++◌, Option, Some, None, Result, Ok, Err, take, drop, length, slice_index}
 use Rattle.ada_lexer.specs.Classes.{digit_of, is_letter, is_digit, is_e, is_plain, base_of}
 use Rattle.ada_lexer.specs.Pieces.{every, space, comment, word, number, character, text, mark_of, allowed, longest}
-use Rattle.ada_lexer.specs.declared.token.Mark.{Mark}
-use Rattle.ada_lexer.specs.declared.token.Mark.TheVariants.{Close}
-use Rattle.ada_lexer.specs.Words.{reserved_of}
-use Rattle.ada_lexer.specs.declared.words.Reserved.{Reserved}
-use Rattle.ada_lexer.specs.declared.words.Reserved.TheVariants as words
+use Rattle.ada_tree.specs.declared.token.Mark.{Mark}
+use Rattle.ada_tree.specs.declared.token.Mark.TheVariants.{Close}
+use Rattle.ada_tree.specs.Words.{reserved_of}
+use Rattle.ada_tree.specs.declared.words.Reserved.{Reserved}
+use Rattle.ada_tree.specs.declared.words.Reserved.TheVariants as words
 use Rattle.spark_base.specs.declared.numbers.FileNo.{FileNo}
 use Rattle.spark_base.specs.declared.numbers.Pos.{Pos}
 use Rattle.spark_base.specs.declared.numbers.Span.{Span}
-use Rattle.ada_lexer.specs.declared.token.Token.{Token}
-use Rattle.ada_lexer.specs.declared.token.TokenKind.{TokenKind}
-use Rattle.ada_lexer.specs.declared.token.TokenKind.TheVariants as kinds
+use Rattle.ada_tree.specs.declared.token.Token.{Token}
+use Rattle.ada_tree.specs.declared.token.TokenKind.{TokenKind}
+use Rattle.ada_tree.specs.declared.token.TokenKind.TheVariants as kinds
 use Rattle.ada_lexer.specs.declared.refusal.LexCode.{LexCode}
 use Rattle.ada_lexer.specs.declared.refusal.LexCode.TheVariants.{L01, L02, L03, L04, X01}
 use Rattle.ada_lexer.specs.declared.piece.Fault.{Fault}

@@ -6,8 +6,7 @@ use crate::piece::Piece;
 use crate::pieces::piece_at;
 use crate::refusal::{LexCode, LexFault, Refusal};
 use crate::scan::{after, front};
-use crate::token::{Mark, Token, TokenKind, Tokens};
-use crate::words::Reserved;
+use ada_tree::{Mark, Reserved, Token, TokenKind, Tokens};
 use spark_base::{Bytes, FileNo, Items, NoMemory, Pos, Span};
 use std::alloc::Global;
 

@@ -9,7 +9,7 @@ use crate::classes::{digit_of, is_digit, is_e, is_letter, is_plain};
 use crate::piece::{Fault, Piece};
 use crate::refusal::LexCode;
 use crate::scan::{after, front, parted_len, starts_digit};
-use crate::token::TokenKind;
+use ada_tree::TokenKind;
 
 /// The value with one more byte, if 128 bits hold it.
 fn push_digit(base: u8, value: u128, b: u8) -> Option<u128>

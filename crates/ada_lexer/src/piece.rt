@@ -1,5 +1,5 @@
 use crate::refusal::LexCode;
-use crate::token::TokenKind;
+use ada_tree::TokenKind;
 
 /// A piece of a source: white space, a comment or a token.
 #[derive(Clone, Copy, Debug, PartialEq, Eq)]

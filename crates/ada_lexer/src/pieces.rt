@@ -4,7 +4,7 @@ ghost use Rattle.ada_lexer.specs.Answer.{IsWithin};
 ghost use Rattle.ada_lexer.specs.Cut as cut;
 ghost use Rattle.ada_lexer.specs.Pieces as pieces;
 ghost use Rattle.ada_lexer.specs.Runs as runs;
-ghost use Rattle.ada_lexer.specs.Words.{reserved_of};
+ghost use Rattle.ada_tree.specs.Words.{reserved_of};
 
 use crate::classes::{is_digit, is_letter, is_white};
 use crate::marks::other_piece;
@@ -12,8 +12,7 @@ use crate::number::number_piece;
 use crate::piece::{Fault, Piece};
 use crate::refusal::LexCode;
 use crate::scan::{after, first_high, front, inner_run, parted_len, text_end, white_run};
-use crate::token::TokenKind;
-use crate::words::reserved_of;
+use ada_tree::{TokenKind, reserved_of};
 
 /// White space at the front.
 #[tactic(auto, using(crate::proofs::Here::space_here))]

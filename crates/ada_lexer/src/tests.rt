@@ -1,4 +1,5 @@
-use crate::{LexCode, LexFault, Mark, Refusal, Reserved, Token, TokenKind, Tokens, lex};
+use crate::{LexCode, LexFault, Refusal, lex};
+use ada_tree::{Mark, Reserved, Token, TokenKind, Tokens};
 use spark_base::{Bytes, FileNo, NoMemory, Pos, Span};
 use std::alloc::Global;
 use std::test::Fail;

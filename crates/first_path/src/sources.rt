@@ -7,7 +7,8 @@ use crate::reading::ReadFault;
 use crate::source::Source;
 use crate::symbols::symbols_of;
 use crate::units::source;
-use ada_lexer::{LexFault, Tokens, lex, tokens_in_order};
+use ada_lexer::{LexFault, lex, tokens_in_order};
+use ada_tree::Tokens;
 use spark_base::{Bytes, FileNo, NoMemory};
 use std::alloc::Global;
 
