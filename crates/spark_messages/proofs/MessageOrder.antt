@@ -58,16 +58,124 @@ both false b h = cc
 -- the code of a text
 abbrev code_named : List ℕ → Code
 code_named text =
+    if bytes_eq text (codes "A01") then code.A01 else
+    if bytes_eq text (codes "D01") then code.D01 else
+    if bytes_eq text (codes "D02") then code.D02 else
+    if bytes_eq text (codes "D03") then code.D03 else
+    if bytes_eq text (codes "F01") then code.F01 else
+    if bytes_eq text (codes "F02") then code.F02 else
     if bytes_eq text (codes "G01") then code.G01 else
     if bytes_eq text (codes "G02") then code.G02 else
     if bytes_eq text (codes "G03") then code.G03 else
-    code.U01
+    if bytes_eq text (codes "G04") then code.G04 else
+    if bytes_eq text (codes "G05") then code.G05 else
+    if bytes_eq text (codes "I01") then code.I01 else
+    if bytes_eq text (codes "I02") then code.I02 else
+    if bytes_eq text (codes "I03") then code.I03 else
+    if bytes_eq text (codes "I04") then code.I04 else
+    if bytes_eq text (codes "L01") then code.L01 else
+    if bytes_eq text (codes "L02") then code.L02 else
+    if bytes_eq text (codes "L03") then code.L03 else
+    if bytes_eq text (codes "L04") then code.L04 else
+    if bytes_eq text (codes "N01") then code.N01 else
+    if bytes_eq text (codes "N02") then code.N02 else
+    if bytes_eq text (codes "N03") then code.N03 else
+    if bytes_eq text (codes "N04") then code.N04 else
+    if bytes_eq text (codes "N05") then code.N05 else
+    if bytes_eq text (codes "N06") then code.N06 else
+    if bytes_eq text (codes "N07") then code.N07 else
+    if bytes_eq text (codes "N08") then code.N08 else
+    if bytes_eq text (codes "N09") then code.N09 else
+    if bytes_eq text (codes "N10") then code.N10 else
+    if bytes_eq text (codes "N11") then code.N11 else
+    if bytes_eq text (codes "N12") then code.N12 else
+    if bytes_eq text (codes "R01") then code.R01 else
+    if bytes_eq text (codes "R02") then code.R02 else
+    if bytes_eq text (codes "R03") then code.R03 else
+    if bytes_eq text (codes "R04") then code.R04 else
+    if bytes_eq text (codes "R05") then code.R05 else
+    if bytes_eq text (codes "R06") then code.R06 else
+    if bytes_eq text (codes "S01") then code.S01 else
+    if bytes_eq text (codes "T01") then code.T01 else
+    if bytes_eq text (codes "T02") then code.T02 else
+    if bytes_eq text (codes "T03") then code.T03 else
+    if bytes_eq text (codes "T04") then code.T04 else
+    if bytes_eq text (codes "U01") then code.U01 else
+    if bytes_eq text (codes "X01") then code.X01 else
+    if bytes_eq text (codes "X02") then code.X02 else
+    if bytes_eq text (codes "X03") then code.X03 else
+    if bytes_eq text (codes "X04") then code.X04 else
+    if bytes_eq text (codes "X05") then code.X05 else
+    if bytes_eq text (codes "X06") then code.X06 else
+    if bytes_eq text (codes "Y01") then code.Y01 else
+    if bytes_eq text (codes "Y02") then code.Y02 else
+    if bytes_eq text (codes "Y03") then code.Y03 else
+    if bytes_eq text (codes "Y04") then code.Y04 else
+    if bytes_eq text (codes "Y05") then code.Y05 else
+    if bytes_eq text (codes "Y06") then code.Y06 else
+    if bytes_eq text (codes "Y07") then code.Y07 else
+    if bytes_eq text (codes "Y08") then code.Y08 else
+    code.Y09
 
 code_named-text : (c : Code) → code_named (code_text c) ≡ c
+code_named-text code.A01 = refl
+code_named-text code.D01 = refl
+code_named-text code.D02 = refl
+code_named-text code.D03 = refl
+code_named-text code.F01 = refl
+code_named-text code.F02 = refl
 code_named-text code.G01 = refl
 code_named-text code.G02 = refl
 code_named-text code.G03 = refl
+code_named-text code.G04 = refl
+code_named-text code.G05 = refl
+code_named-text code.I01 = refl
+code_named-text code.I02 = refl
+code_named-text code.I03 = refl
+code_named-text code.I04 = refl
+code_named-text code.L01 = refl
+code_named-text code.L02 = refl
+code_named-text code.L03 = refl
+code_named-text code.L04 = refl
+code_named-text code.N01 = refl
+code_named-text code.N02 = refl
+code_named-text code.N03 = refl
+code_named-text code.N04 = refl
+code_named-text code.N05 = refl
+code_named-text code.N06 = refl
+code_named-text code.N07 = refl
+code_named-text code.N08 = refl
+code_named-text code.N09 = refl
+code_named-text code.N10 = refl
+code_named-text code.N11 = refl
+code_named-text code.N12 = refl
+code_named-text code.R01 = refl
+code_named-text code.R02 = refl
+code_named-text code.R03 = refl
+code_named-text code.R04 = refl
+code_named-text code.R05 = refl
+code_named-text code.R06 = refl
+code_named-text code.S01 = refl
+code_named-text code.T01 = refl
+code_named-text code.T02 = refl
+code_named-text code.T03 = refl
+code_named-text code.T04 = refl
 code_named-text code.U01 = refl
+code_named-text code.X01 = refl
+code_named-text code.X02 = refl
+code_named-text code.X03 = refl
+code_named-text code.X04 = refl
+code_named-text code.X05 = refl
+code_named-text code.X06 = refl
+code_named-text code.Y01 = refl
+code_named-text code.Y02 = refl
+code_named-text code.Y03 = refl
+code_named-text code.Y04 = refl
+code_named-text code.Y05 = refl
+code_named-text code.Y06 = refl
+code_named-text code.Y07 = refl
+code_named-text code.Y08 = refl
+code_named-text code.Y09 = refl
 
 code_text-injective : (c d : Code) → code_text c ≡ code_text d → c ≡ d
 code_text-injective c d h = sym (code_named-text c) ∙ ap code_named h ∙ code_named-text d

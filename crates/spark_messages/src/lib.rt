@@ -5,4 +5,4 @@ mod code_order;
 pub mod message_texts;
 pub mod messages;
 
-pub use messages::{Code, Kind, Message, ordered, text_of};
+pub use messages::{Code, Kind, Message, PhaseFault, ordered, text_of};

@@ -1,7 +1,8 @@
 //! The texts of messages, as functions of the names that they mention.
 ghost use Rattle.std.specs.Prelude.{◌≡◌, ◌++◌, IfOk, OnOk};
-ghost use Rattle.spark_messages.specs.MessageTexts.{quoted, mode_text, outside_text, unlisted_text, written_input_text, read_output_text};
+ghost use Rattle.spark_messages.specs.MessageTexts.{quoted, mode_text, refusal_text, outside_text, unlisted_text, written_input_text, read_output_text};
 
+use crate::messages::Code;
 use spark_base::{Bytes, NoMemory};
 use std::alloc::Global;
 
@@ -29,6 +30,36 @@ impl UsedMode {
             UsedMode::Output => "Output",
             UsedMode::InOut => "In_Out",
         }
+    }
+}
+
+/// The text of a refusal whose text mentions no name. It is empty for the other codes.
+pub fn refusal_text(code: Code) -> &'static str
+    ensures { result.now ≡ refusal_text code }
+{
+    match code {
+        Code::L01 => "byte outside ASCII",
+        Code::L02 => "malformed number",
+        Code::L03 => "number past 128 bits",
+        Code::L04 => "unknown character",
+        Code::N03 => "specs with each other in a circle",
+        Code::S01 => "not in the grammar here",
+        Code::X01 => "too many bytes",
+        Code::X02 => "nesting too deep",
+        Code::X03 => "more than 4096 bodies",
+        Code::X04 => "more than 16384 leaves",
+        Code::X05 => "summary table too large",
+        Code::X06 => "more than 1000 files",
+        Code::Y01 => "static value past 128 bits",
+        Code::Y02 => "not static",
+        Code::Y03 => "static division by zero",
+        Code::Y04 => "types differ",
+        Code::Y05 => "range or modulus is not allowed",
+        Code::Y06 => "no such component",
+        Code::Y07 => "not an array",
+        Code::Y08 => "case choices are not exact",
+        Code::Y09 => "aggregate is not exact",
+        _ => "",
     }
 }
 
