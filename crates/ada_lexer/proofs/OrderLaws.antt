@@ -6,7 +6,7 @@ use Rattle.ada_lexer.specs.Cut.{piece_at, judged, cut_here, cut_from, span, toke
 use Rattle.ada_tree.specs.Words.{reserved_of}
 use Rattle.spark_base.specs.declared.numbers.FileNo.{FileNo}
 use Rattle.ada_tree.specs.declared.token.TokenKind.TheVariants as kinds
-use Rattle.ada_lexer.specs.declared.refusal.LexCode.TheVariants.{L01, L02, L03, L04}
+use Rattle.spark_messages.specs.declared.messages.Code.TheVariants.{L01, L02, L03, L04}
 use Rattle.ada_lexer.specs.Laws.{InOrder}
 use Rattle.ada_tree.specs.declared.token.Token.{Token}
 use Rattle.ada_tree.specs.declared.token.TokenKind.{TokenKind}

@@ -13,8 +13,8 @@ use Rattle.spark_base.specs.declared.numbers.Span.{Span}
 use Rattle.ada_tree.specs.declared.token.Token.{Token}
 use Rattle.ada_tree.specs.declared.token.TokenKind.{TokenKind}
 use Rattle.ada_tree.specs.declared.token.TokenKind.TheVariants as kinds
-use Rattle.ada_lexer.specs.declared.refusal.LexCode.{LexCode}
-use Rattle.ada_lexer.specs.declared.refusal.LexCode.TheVariants.{L01, L02, L03, L04, X01}
+use Rattle.spark_messages.specs.declared.messages.Code.{Code}
+use Rattle.spark_messages.specs.declared.messages.Code.TheVariants.{L01, L02, L03, L04, X01}
 use Rattle.ada_lexer.specs.declared.piece.Fault.{Fault}
 use Rattle.ada_lexer.specs.declared.piece.Piece.{Piece}
 use Rattle.ada_lexer.specs.declared.refusal.Refusal.{Refusal}
@@ -65,7 +65,7 @@ first_high [] = None
 first_high (b ∷ bs) = if nat_lt 127 b then Some 0 else (elim (first_high bs) [ Some n ↦ Some (n + 1) | None ↦ None ])
 
 -- a refusal so many bytes on
-abbrev pub fault : {A : Type 0} → LexCode → ℕ → Result A Fault
+abbrev pub fault : {A : Type 0} → Code → ℕ → Result A Fault
 fault code at = Err (record { code = code; at = at })
 
 -- a piece of so many bytes, with its kind if it is a token

@@ -5,7 +5,7 @@ use Rattle.ada_tree.specs.Marks.{single, double}
 use Rattle.ada_lexer.specs.Cut.{fault, piece, text_end, first_high}
 use Rattle.ada_tree.specs.declared.token.Mark.{Mark as TheMark}
 use Rattle.ada_tree.specs.declared.token.TokenKind.TheVariants.{Mark, Character, Number}
-use Rattle.ada_lexer.specs.declared.refusal.LexCode.TheVariants.{L01, L02, L03, L04}
+use Rattle.spark_messages.specs.declared.messages.Code.TheVariants.{L01, L02, L03, L04}
 use Rattle.ada_lexer.specs.declared.piece.Fault.{Fault}
 use Rattle.ada_lexer.specs.declared.piece.Piece.{Piece}
 

@@ -18,4 +18,3 @@ mod tests;
 
 pub use laws::{longest_fronts, number_parts, number_values, tokens_in_order};
 pub use lexing::lex;
-pub use refusal::{LexCode, LexFault, Refusal};

@@ -5,8 +5,8 @@ ghost use Rattle.ada_lexer.specs.Runs as runs;
 
 use crate::classes::is_printable;
 use crate::piece::{Fault, Piece};
-use crate::refusal::LexCode;
 use ada_tree::{TokenKind, double_mark, single_mark};
+use spark_messages::Code;
 
 /// A mark of one byte, or what is wrong with that byte.
 fn one_mark(b: u8) -> Result<Piece, Fault>
@@ -19,7 +19,7 @@ fn one_mark(b: u8) -> Result<Piece, Fault>
             kind: Some(TokenKind::Mark(mark)),
         }),
         None => {
-            let code = if b > 127 { LexCode::L01 } else { LexCode::L04 };
+            let code = if b > 127 { Code::L01 } else { Code::L04 };
             Err(Fault { code, at: 0 })
         }
     }
