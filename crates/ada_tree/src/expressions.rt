@@ -4,7 +4,8 @@ use spark_base::{AspectNo, DeclNo, ExprNo, Items, Name, Pos, Span, StmtNo};
 /// item of an aspect is the node of its name. Each of the lists has the children of its type, in the order of the source.
 #[derive(Debug, Drop)]
 pub struct ExprNode {
-    /// Where the name stands, if the node has one; else all that the node was read from.
+    /// Where the name stands, if the node has one: of `P.N` and `P'N` the `N` alone, since the prefix is a node of its own.
+    /// Else all that the node was read from.
     pub span: Span,
     pub kind: ExprKind,
     /// What the node uses: of several parted by points the last.

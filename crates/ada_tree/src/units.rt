@@ -18,7 +18,7 @@ pub struct Units {
 /// A unit of a file. Each of the lists has the children of its type, in the order of the source.
 #[derive(Debug, Drop)]
 pub struct Unit {
-    /// Where the unit's name stands.
+    /// Where the name stands.
     pub span: Span,
     pub kind: UnitKind,
     pub name: Option<Name>,
