@@ -2,7 +2,7 @@
 use Rattle.std.proofs.Common.{◌≡◌, ℕ, ◌<◌, true, false, None, arith, nat_eq}
 use Rattle.std.proofs.lemmas.Bool.Decides.{nat_tests}
 use Rattle.ada_lexer.specs.Classes.{digit_of, is_digit, is_letter, is_white}
-use Rattle.ada_lexer.specs.Pieces.{single, double}
+use Rattle.ada_tree.specs.Marks.{single, double}
 
 pub letter-range : (b : ℕ) → is_letter b ≡ true → (64 < b) × (b < 123)
 unfolding is_letter digit_of

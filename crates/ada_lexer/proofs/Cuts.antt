@@ -6,7 +6,7 @@ use Rattle.ada_lexer.specs.Cut.{piece_at, cut_from, span, token_of, after_tokens
 use Rattle.spark_base.specs.declared.numbers.FileNo.{FileNo}
 use Rattle.spark_base.specs.declared.numbers.Span.{Span}
 use Rattle.spark_base.specs.declared.numbers.Pos.{Pos}
-use Rattle.ada_lexer.specs.declared.token.Token.{Token}
+use Rattle.ada_tree.specs.declared.token.Token.{Token}
 use Rattle.ada_lexer.specs.declared.piece.Fault.{Fault}
 use Rattle.ada_lexer.specs.declared.piece.Piece.{Piece}
 use Rattle.ada_lexer.specs.declared.refusal.Refusal.{Refusal}

@@ -2,9 +2,10 @@
 use Rattle.std.proofs.Common.{◌≡◌, ◌≢◌, ℕ, suc, ◌+◌, ◌*◌, ◌<◌, List, [], ◌∷◌, Bool, true, false, ◌&&◌, ◌||◌, if◌then◌else◌, take, drop, IfSome, None, Some, refl, ap, subst, ◌∙◌, arith, nat_eq}
 use Rattle.std.specs.declared.option.Option.{Option}
 use Rattle.ada_lexer.specs.Classes.{digit_of, is_digit, is_letter, is_white, is_inner, is_printable}
-use Rattle.ada_lexer.specs.Pieces.{every, space, comment, parted, word, number, number_from, character, quoted, text, mark_of, single, double, allowed, longest, one_more, is_some}
+use Rattle.ada_tree.specs.Marks.{single, double}
+use Rattle.ada_lexer.specs.Pieces.{every, space, comment, parted, word, number, number_from, character, quoted, text, mark_of, allowed, longest, one_more, is_some}
 use Rattle.ada_lexer.specs.Cut.{piece_at, judged, cut_here, piece, word_kind, number_piece, text_piece}
-use Rattle.ada_lexer.specs.Words.{reserved_of}
+use Rattle.ada_tree.specs.Words.{reserved_of}
 use Rattle.ada_lexer.proofs.Longest.{longest-cong, longest-every, longest-parted}
 use Rattle.ada_lexer.specs.Runs.{run, parted_len}
 use Rattle.ada_lexer.proofs.Bytes.{letter-range, digit-range, white-range, not-white, not-letter, not-digit, letter-not_digit, digit-not_letter, differs, letter-single, letter-double, digit-single, digit-double, low-single, low-double}

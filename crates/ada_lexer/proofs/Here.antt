@@ -5,9 +5,9 @@ use Rattle.std.specs.declared.option.Option.{Option}
 use Rattle.ada_lexer.specs.Classes.{is_inner, is_white, is_letter}
 use Rattle.ada_lexer.specs.Cut.{piece_at, piece, word_kind, text_end, first_high}
 use Rattle.ada_lexer.specs.Runs.{run, parted_len, close, text_made, other, one_mark, two_marks, ticked_byte}
-use Rattle.ada_lexer.specs.Pieces.{single, double}
-use Rattle.ada_lexer.specs.declared.token.TokenKind.TheVariants as kinds
-use Rattle.ada_lexer.specs.Words.{reserved_of}
+use Rattle.ada_tree.specs.Marks.{single, double}
+use Rattle.ada_tree.specs.declared.token.TokenKind.TheVariants as kinds
+use Rattle.ada_tree.specs.Words.{reserved_of}
 use Rattle.ada_lexer.proofs.Fronts.{at_word, at_space}
 use Rattle.ada_lexer.proofs.Texts.{at_text}
 use Rattle.ada_lexer.proofs.Others.{Other, at_other, at_other_one, at_comment}

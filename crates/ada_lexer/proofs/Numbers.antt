@@ -6,8 +6,8 @@ use Rattle.ada_lexer.specs.Classes.{digit_of, is_digit, is_e, base_of}
 use Rattle.ada_lexer.specs.Pieces.{parted, exponent, scale, based, number_from, number, allowed, longest, one_more}
 use Rattle.ada_lexer.specs.Cut.{piece_at, cut_here, piece, fault, number_piece, number_value, spoils, value_from}
 use Rattle.ada_lexer.specs.Runs.{raised, starts_digit, parted_len, due_len, exponent_len, scale_len, based_len, tail_len, number_len, one_after, fits, number_made}
-use Rattle.ada_lexer.specs.declared.refusal.LexCode.TheVariants.{L02, L03}
-use Rattle.ada_lexer.specs.declared.token.TokenKind.TheVariants as kinds
+use Rattle.spark_messages.specs.declared.messages.Code.TheVariants.{L02, L03}
+use Rattle.ada_tree.specs.declared.token.TokenKind.TheVariants as kinds
 use Rattle.ada_lexer.specs.declared.piece.Fault.{Fault}
 use Rattle.ada_lexer.specs.declared.piece.Piece.{Piece}
 use Rattle.ada_lexer.proofs.Longest.{longest-none, longest-parted}

@@ -3,14 +3,14 @@ use Rattle.std.proofs.Common.{◌≡◌, ℕ, zero, suc, ◌+◌, ◌-◌, ◌<�
 use Rattle.std.specs.declared.option.Option.{Option}
 use Rattle.ada_lexer.specs.Pieces.{allowed, longest, space, comment, word, number, text, character, mark_of}
 use Rattle.ada_lexer.specs.Cut.{piece_at, judged, cut_here, cut_from, span, token_of, after_tokens, place, ticks, number_piece, text_piece, text_end, mark_piece, first_high, lexed, starts, fault, piece, word_kind, spoils, number_value}
-use Rattle.ada_lexer.specs.Words.{reserved_of}
+use Rattle.ada_tree.specs.Words.{reserved_of}
 use Rattle.spark_base.specs.declared.numbers.FileNo.{FileNo}
-use Rattle.ada_lexer.specs.declared.token.TokenKind.TheVariants as kinds
-use Rattle.ada_lexer.specs.declared.refusal.LexCode.TheVariants.{L01, L02, L03, L04}
+use Rattle.ada_tree.specs.declared.token.TokenKind.TheVariants as kinds
+use Rattle.spark_messages.specs.declared.messages.Code.TheVariants.{L01, L02, L03, L04}
 use Rattle.ada_lexer.specs.Laws.{InOrder}
-use Rattle.ada_lexer.specs.declared.token.Token.{Token}
-use Rattle.ada_lexer.specs.declared.token.TokenKind.{TokenKind}
-use Rattle.ada_lexer.specs.declared.token.Mark.{Mark}
+use Rattle.ada_tree.specs.declared.token.Token.{Token}
+use Rattle.ada_tree.specs.declared.token.TokenKind.{TokenKind}
+use Rattle.ada_tree.specs.declared.token.Mark.{Mark}
 use Rattle.ada_lexer.specs.declared.piece.Fault.{Fault}
 use Rattle.ada_lexer.specs.declared.piece.Piece.{Piece}
 use Rattle.ada_lexer.specs.declared.refusal.Refusal.{Refusal}

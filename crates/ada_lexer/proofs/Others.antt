@@ -2,11 +2,12 @@
 use Rattle.std.proofs.Common.{◌≡◌, ◌≢◌, ℕ, suc, List, [], ◌∷◌, Bool, true, false, ◌&&◌, ◌||◌, if◌then◌else◌, take, drop, None, Some, refl, ap, sym, ◌∙◌, arith, nat_eq}
 use Rattle.std.specs.declared.option.Option.{Option}
 use Rattle.ada_lexer.specs.Classes.{is_inner, is_white, is_letter, is_digit, is_printable}
-use Rattle.ada_lexer.specs.Pieces.{allowed, longest, space, word, number, text, one_more, character, comment, mark_of, single, double, is_some, every}
+use Rattle.ada_tree.specs.Marks.{single, double}
+use Rattle.ada_lexer.specs.Pieces.{allowed, longest, space, word, number, text, one_more, character, comment, mark_of, is_some, every}
 use Rattle.ada_lexer.specs.Cut.{piece_at, judged, cut_here, piece, mark_piece}
 use Rattle.ada_lexer.specs.Runs.{run, other, one_mark, two_marks, ticked_byte}
-use Rattle.ada_lexer.specs.declared.token.Mark.{Mark}
-use Rattle.ada_lexer.specs.declared.token.TokenKind.TheVariants as kinds
+use Rattle.ada_tree.specs.declared.token.Mark.{Mark}
+use Rattle.ada_tree.specs.declared.token.TokenKind.TheVariants as kinds
 use Rattle.ada_lexer.proofs.Longest.{longest-none, longest-cong, longest-every}
 use Rattle.ada_lexer.proofs.Bytes.{not-letter, not-digit}
 use Rattle.ada_lexer.proofs.Fronts.{allowed-nil, allowed-tick, passes_at, space-not, word-not, number-not, text-not, character-not, judged-comment, ticked-not, only_comment}

@@ -5,7 +5,7 @@ use Rattle.ada_lexer.specs.Classes.{is_inner}
 use Rattle.ada_lexer.specs.Pieces.{quoted, text, longest, one_more}
 use Rattle.ada_lexer.specs.Cut.{piece_at, cut_here, fault, text_end, starts, first_high}
 use Rattle.ada_lexer.specs.Runs.{raised, close, text_made}
-use Rattle.ada_lexer.specs.declared.refusal.LexCode.TheVariants.{L01, L04}
+use Rattle.spark_messages.specs.declared.messages.Code.TheVariants.{L01, L04}
 use Rattle.ada_lexer.proofs.Longest.{longest-none}
 use Rattle.ada_lexer.proofs.Fronts.{longest-after, allowed-text, passes_at, judged-text}
 

@@ -2,19 +2,19 @@
 use Rattle.std.specs.Prelude.{ℕ, zero, suc, ◌+◌, ◌-◌, ◌*◌, ◌^◌, Bool, true, false, if◌then◌else◌, nat_eq, nat_lt, nat_le, List, [], ◌∷◌, ◌++◌, Option, Some, None, Result, Ok, Err, take, drop, length, slice_index}
 use Rattle.ada_lexer.specs.Classes.{digit_of, is_letter, is_digit, is_e, is_plain, base_of}
 use Rattle.ada_lexer.specs.Pieces.{every, space, comment, word, number, character, text, mark_of, allowed, longest}
-use Rattle.ada_lexer.specs.declared.token.Mark.{Mark}
-use Rattle.ada_lexer.specs.declared.token.Mark.TheVariants.{Close}
-use Rattle.ada_lexer.specs.Words.{reserved_of}
-use Rattle.ada_lexer.specs.declared.words.Reserved.{Reserved}
-use Rattle.ada_lexer.specs.declared.words.Reserved.TheVariants as words
+use Rattle.ada_tree.specs.declared.token.Mark.{Mark}
+use Rattle.ada_tree.specs.declared.token.Mark.TheVariants.{Close}
+use Rattle.ada_tree.specs.Words.{reserved_of}
+use Rattle.ada_tree.specs.declared.words.Reserved.{Reserved}
+use Rattle.ada_tree.specs.declared.words.Reserved.TheVariants as words
 use Rattle.spark_base.specs.declared.numbers.FileNo.{FileNo}
 use Rattle.spark_base.specs.declared.numbers.Pos.{Pos}
 use Rattle.spark_base.specs.declared.numbers.Span.{Span}
-use Rattle.ada_lexer.specs.declared.token.Token.{Token}
-use Rattle.ada_lexer.specs.declared.token.TokenKind.{TokenKind}
-use Rattle.ada_lexer.specs.declared.token.TokenKind.TheVariants as kinds
-use Rattle.ada_lexer.specs.declared.refusal.LexCode.{LexCode}
-use Rattle.ada_lexer.specs.declared.refusal.LexCode.TheVariants.{L01, L02, L03, L04, X01}
+use Rattle.ada_tree.specs.declared.token.Token.{Token}
+use Rattle.ada_tree.specs.declared.token.TokenKind.{TokenKind}
+use Rattle.ada_tree.specs.declared.token.TokenKind.TheVariants as kinds
+use Rattle.spark_messages.specs.declared.messages.Code.{Code}
+use Rattle.spark_messages.specs.declared.messages.Code.TheVariants.{L01, L02, L03, L04, X01}
 use Rattle.ada_lexer.specs.declared.piece.Fault.{Fault}
 use Rattle.ada_lexer.specs.declared.piece.Piece.{Piece}
 use Rattle.ada_lexer.specs.declared.refusal.Refusal.{Refusal}
@@ -65,7 +65,7 @@ first_high [] = None
 first_high (b ∷ bs) = if nat_lt 127 b then Some 0 else (elim (first_high bs) [ Some n ↦ Some (n + 1) | None ↦ None ])
 
 -- a refusal so many bytes on
-abbrev pub fault : {A : Type 0} → LexCode → ℕ → Result A Fault
+abbrev pub fault : {A : Type 0} → Code → ℕ → Result A Fault
 fault code at = Err (record { code = code; at = at })
 
 -- a piece of so many bytes, with its kind if it is a token

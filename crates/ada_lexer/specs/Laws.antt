@@ -1,5 +1,5 @@
 -- What the laws say of fronts, numbers and tokens.
-use Rattle.ada_lexer.specs.declared.token.Token.{Token}
+use Rattle.ada_tree.specs.declared.token.Token.{Token}
 use Rattle.spark_base.specs.declared.numbers.FileNo.{FileNo}
 use Rattle.std.specs.Prelude.{[], ◌≡◌, ℕ, ◌<◌, ◌≤◌, List, ◌++◌, ◌∷◌, Bool, true, false, length, take}
 use Rattle.ada_lexer.specs.Classes.{base_of}

@@ -1,11 +1,11 @@
 -- How far the code reads, by one pass over a list. Only contracts of private functions and invariants speak of these: what the tokens of a source are rests on none of them.
 use Rattle.std.specs.Prelude.{ℕ, suc, ◌+◌, ◌*◌, ◌^◌, nat_le, Bool, true, false, if◌then◌else◌, nat_eq, nat_lt, ◌&&◌, List, [], ◌∷◌, Option, Some, None, Result, take}
 use Rattle.ada_lexer.specs.Classes.{digit_of, is_digit, is_e, base_of, is_inner, is_printable}
-use Rattle.ada_lexer.specs.Pieces.{single, double}
+use Rattle.ada_tree.specs.Marks.{single, double}
 use Rattle.ada_lexer.specs.Cut.{fault, piece, text_end, first_high}
-use Rattle.ada_lexer.specs.declared.token.Mark.{Mark as TheMark}
-use Rattle.ada_lexer.specs.declared.token.TokenKind.TheVariants.{Mark, Character, Number}
-use Rattle.ada_lexer.specs.declared.refusal.LexCode.TheVariants.{L01, L02, L03, L04}
+use Rattle.ada_tree.specs.declared.token.Mark.{Mark as TheMark}
+use Rattle.ada_tree.specs.declared.token.TokenKind.TheVariants.{Mark, Character, Number}
+use Rattle.spark_messages.specs.declared.messages.Code.TheVariants.{L01, L02, L03, L04}
 use Rattle.ada_lexer.specs.declared.piece.Fault.{Fault}
 use Rattle.ada_lexer.specs.declared.piece.Piece.{Piece}
 

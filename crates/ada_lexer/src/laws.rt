@@ -3,8 +3,6 @@ ghost use Rattle.ada_lexer.specs.Classes.{base_of};
 ghost use Rattle.ada_lexer.specs.Laws.{InOrder, IsBased, IsDecimal, IsLongest, NonePasses};
 ghost use Rattle.ada_lexer.specs.Cut.{lexed, number_value, value_from};
 ghost use Rattle.ada_lexer.specs.Pieces.{longest, number};
-ghost use Rattle.ada_lexer.specs.Words.{reserved_of, spelled};
-ghost use Rattle.ada_lexer.specs.declared.words.Reserved.{Reserved};
 ghost use Rattle.spark_base.specs.declared.numbers.FileNo.{FileNo};
 
 /// What `longest` gives is the longest front that passes, and none only where no front passes.
@@ -30,11 +28,6 @@ pub fn number_values()
         let base = base_of (value_from 10 0 r.base) in
         number_value bytes
         ≡ value_from base 0 r.is_rest.digits * base ^ value_from 10 0 r.is_rest.tail }
-{}
-
-/// Each reserved word is read as itself.
-pub fn spelled_words()
-    ensures { (word : Reserved) → reserved_of (spelled word) ≡ Some word }
 {}
 
 /// The tokens of a source have bytes, stand in order within it and do not overlap, and the span of

@@ -4,11 +4,11 @@ ghost use Rattle.ada_lexer.specs.Cut as cut;
 
 use crate::piece::Piece;
 use crate::pieces::piece_at;
-use crate::refusal::{LexCode, LexFault, Refusal};
+use crate::refusal::{Refusal, refused};
 use crate::scan::{after, front};
-use crate::token::{Mark, Token, TokenKind, Tokens};
-use crate::words::Reserved;
+use ada_tree::{Mark, Reserved, Token, TokenKind, Tokens};
 use spark_base::{Bytes, FileNo, Items, NoMemory, Pos, Span};
+use spark_messages::{Code, PhaseFault};
 use std::alloc::Global;
 
 /// The most bytes that a source may have.
@@ -85,20 +85,23 @@ fn add(tokens: &mut Items<Token>, piece: &Piece, span: Span, at: usize) -> Resul
 /// The tokens of a source, which is kept with them.
 ///
 /// Refused are a source of more than 4,194,304 bytes (X01, at its beginning), and else the first
-/// piece that is malformed (L02 to L04) or has a byte outside ASCII (L01).
+/// piece that is malformed (L02 to L04) or has a byte outside ASCII (L01). The message is of the
+/// kind `Refused`, with the code and its text, at the refusal's place in this file. `NoMemory` is
+/// for want of memory alone.
 #[tactic(auto, unfolding(crate::specs::Cut::lexed))]
-pub fn lex(alloc: Global, file: FileNo, source: Bytes) -> Result<Tokens, LexFault>
+pub fn lex(alloc: Global, file: FileNo, source: Bytes) -> Result<Tokens, PhaseFault>
     ensures list { IfOk result (λ t. cut.lexed file source ≡ Ok t.list) }
     ensures file { IfOk result (λ t. t.file ≡ file) }
     ensures source { IfOk result (λ t. t.source ≡ source) }
     ensures end { IfOk result (λ t. t.end ≡ cut.place source (length source)) }
-    ensures err { IfErr result (λ f. Fails f (cut.lexed file source)) }
+    ensures err { IfErr result (λ f. Fails file f (cut.lexed file source)) }
 {
     if source.len() > LIMIT {
-        return Err(LexFault::Refused(Refusal {
-            code: LexCode::X01,
+        let refusal = Refusal {
+            code: Code::X01,
             place: START,
-        }));
+        };
+        return Err(refused(alloc, file, refusal));
     }
     let (list, end) = tokens_of(alloc, file, source.as_slice())?;
     Ok(Tokens {
@@ -110,11 +113,11 @@ pub fn lex(alloc: Global, file: FileNo, source: Bytes) -> Result<Tokens, LexFaul
 }
 
 /// The tokens of these bytes, and the place behind the last byte.
-fn tokens_of(alloc: Global, file: FileNo, bytes: &[u8]) -> Result<(Items<Token>, Pos), LexFault>
+fn tokens_of(alloc: Global, file: FileNo, bytes: &[u8]) -> Result<(Items<Token>, Pos), PhaseFault>
     requires { length bytes.now ≤ 4194304 }
     ensures list { IfOk result (λ r. cut.cut_from file bytes.now 0 0 false bytes.now ≡ Ok r.0) }
     ensures end { IfOk result (λ r. r.1 ≡ cut.place bytes.now (length bytes.now)) }
-    ensures err { IfErr result (λ f. Fails f (cut.cut_from file bytes.now 0 0 false bytes.now)) }
+    ensures err { IfErr result (λ f. Fails file f (cut.cut_from file bytes.now 0 0 false bytes.now)) }
 {
     let mut tokens = Items::new(alloc);
     let mut at = 0;
@@ -136,10 +139,11 @@ fn tokens_of(alloc: Global, file: FileNo, bytes: &[u8]) -> Result<(Items<Token>,
                 ticked = ticks(ticked, piece.kind);
             }
             Err(fault) => {
-                return Err(LexFault::Refused(Refusal {
+                let refusal = Refusal {
                     code: fault.code,
                     place: moved(place, front(rest, fault.at)),
-                }));
+                };
+                return Err(refused(alloc, file, refusal));
             }
         }
     }

@@ -15,11 +15,6 @@ mod refusal;
 mod scan;
 #[cfg(test)]
 mod tests;
-mod token;
-mod words;
 
-pub use laws::{longest_fronts, number_parts, number_values, spelled_words, tokens_in_order};
+pub use laws::{longest_fronts, number_parts, number_values, tokens_in_order};
 pub use lexing::lex;
-pub use refusal::{LexCode, LexFault, Refusal};
-pub use token::{Mark, Token, TokenKind, Tokens};
-pub use words::{RESERVED_WORDS, Reserved, reserved_of, spelled};

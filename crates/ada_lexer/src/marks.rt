@@ -1,81 +1,25 @@
 ghost use Rattle.std.specs.Prelude.{◌≡◌, ◌<◌, ◌≤◌, length};
 ghost use Rattle.ada_lexer.specs.Answer.{IsWithin};
-ghost use Rattle.ada_lexer.specs.Pieces as pieces;
+ghost use Rattle.ada_tree.specs.Marks as marks;
 ghost use Rattle.ada_lexer.specs.Runs as runs;
 
 use crate::classes::is_printable;
 use crate::piece::{Fault, Piece};
-use crate::refusal::LexCode;
-use crate::token::{Mark, TokenKind};
-
-/// The mark of one byte.
-#[tactic(auto, unfolding(crate::specs::Pieces::single))]
-fn single(b: u8) -> Option<Mark>
-    ensures { result ≡ pieces.single b }
-{
-    match b {
-        b'&' => Some(Mark::Ampersand),
-        b'\'' => Some(Mark::Tick),
-        b'(' => Some(Mark::Open),
-        b')' => Some(Mark::Close),
-        b'*' => Some(Mark::Star),
-        b'+' => Some(Mark::Plus),
-        b',' => Some(Mark::Comma),
-        b'-' => Some(Mark::Minus),
-        b'.' => Some(Mark::Dot),
-        b'/' => Some(Mark::Slash),
-        b':' => Some(Mark::Colon),
-        b';' => Some(Mark::Semicolon),
-        b'<' => Some(Mark::Less),
-        b'=' => Some(Mark::Equal),
-        b'>' => Some(Mark::Greater),
-        b'|' => Some(Mark::Bar),
-        _ => None,
-    }
-}
-
-/// The mark of two bytes.
-#[tactic(auto, unfolding(crate::specs::Pieces::double))]
-fn double(a: u8, b: u8) -> Option<Mark>
-    ensures { result ≡ pieces.double a b }
-{
-    if a == b'=' && b == b'>' {
-        Some(Mark::Arrow)
-    } else if a == b'.' && b == b'.' {
-        Some(Mark::Dots)
-    } else if a == b'*' && b == b'*' {
-        Some(Mark::Power)
-    } else if a == b':' && b == b'=' {
-        Some(Mark::Becomes)
-    } else if a == b'/' && b == b'=' {
-        Some(Mark::NotEqual)
-    } else if a == b'>' && b == b'=' {
-        Some(Mark::AtLeast)
-    } else if a == b'<' && b == b'=' {
-        Some(Mark::AtMost)
-    } else if a == b'<' && b == b'<' {
-        Some(Mark::OpenLabel)
-    } else if a == b'>' && b == b'>' {
-        Some(Mark::CloseLabel)
-    } else if a == b'<' && b == b'>' {
-        Some(Mark::Box)
-    } else {
-        None
-    }
-}
+use ada_tree::{TokenKind, double_mark, single_mark};
+use spark_messages::Code;
 
 /// A mark of one byte, or what is wrong with that byte.
 fn one_mark(b: u8) -> Result<Piece, Fault>
-    ensures piece { result ≡ runs.one_mark b (pieces.single b) }
+    ensures piece { result ≡ runs.one_mark b (marks.single b) }
     ensures within { IsWithin result 1 }
 {
-    match single(b) {
+    match single_mark(b) {
         Some(mark) => Ok(Piece {
             len: 1,
             kind: Some(TokenKind::Mark(mark)),
         }),
         None => {
-            let code = if b > 127 { LexCode::L01 } else { LexCode::L04 };
+            let code = if b > 127 { Code::L01 } else { Code::L04 };
             Err(Fault { code, at: 0 })
         }
     }
@@ -83,10 +27,10 @@ fn one_mark(b: u8) -> Result<Piece, Fault>
 
 /// A mark of two bytes, or else of their first.
 fn two_marks(b: u8, c: u8) -> Result<Piece, Fault>
-    ensures piece { result ≡ runs.two_marks b (pieces.double b c) }
+    ensures piece { result ≡ runs.two_marks b (marks.double b c) }
     ensures within { IsWithin result 2 }
 {
-    match double(b, c) {
+    match double_mark(b, c) {
         Some(mark) => Ok(Piece {
             len: 2,
             kind: Some(TokenKind::Mark(mark)),

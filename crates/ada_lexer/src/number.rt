@@ -7,9 +7,9 @@ ghost use Rattle.ada_lexer.specs.Runs as runs;
 
 use crate::classes::{digit_of, is_digit, is_e, is_letter, is_plain};
 use crate::piece::{Fault, Piece};
-use crate::refusal::LexCode;
 use crate::scan::{after, front, parted_len, starts_digit};
-use crate::token::TokenKind;
+use ada_tree::TokenKind;
+use spark_messages::Code;
 
 /// The value with one more byte, if 128 bits hold it.
 fn push_digit(base: u8, value: u128, b: u8) -> Option<u128>
@@ -197,13 +197,13 @@ fn judged(len: usize, number: &[u8], rest: &[u8]) -> Result<Piece, Fault>
 {
     if spoils(number, rest) {
         return Err(Fault {
-            code: LexCode::L02,
+            code: Code::L02,
             at: 0,
         });
     }
     match number_value(number) {
         None => Err(Fault {
-            code: LexCode::L03,
+            code: Code::L03,
             at: 0,
         }),
         Some(value) => Ok(Piece {

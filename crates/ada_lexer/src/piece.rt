@@ -1,5 +1,5 @@
-use crate::refusal::LexCode;
-use crate::token::TokenKind;
+use ada_tree::TokenKind;
+use spark_messages::Code;
 
 /// A piece of a source: white space, a comment or a token.
 #[derive(Clone, Copy, Debug, PartialEq, Eq)]
@@ -10,8 +10,8 @@ pub struct Piece {
 }
 
 /// A refusal at a byte, counted from where a piece was to begin.
-#[derive(Clone, Copy, Debug, PartialEq, Eq)]
+#[derive(Clone, Copy, Debug)]
 pub struct Fault {
-    pub code: LexCode,
+    pub code: Code,
     pub at: usize,
 }

@@ -4,16 +4,15 @@ ghost use Rattle.ada_lexer.specs.Answer.{IsWithin};
 ghost use Rattle.ada_lexer.specs.Cut as cut;
 ghost use Rattle.ada_lexer.specs.Pieces as pieces;
 ghost use Rattle.ada_lexer.specs.Runs as runs;
-ghost use Rattle.ada_lexer.specs.Words.{reserved_of};
+ghost use Rattle.ada_tree.specs.Words.{reserved_of};
 
 use crate::classes::{is_digit, is_letter, is_white};
 use crate::marks::other_piece;
 use crate::number::number_piece;
 use crate::piece::{Fault, Piece};
-use crate::refusal::LexCode;
 use crate::scan::{after, first_high, front, inner_run, parted_len, text_end, white_run};
-use crate::token::TokenKind;
-use crate::words::reserved_of;
+use ada_tree::{TokenKind, reserved_of};
+use spark_messages::Code;
 
 /// White space at the front.
 #[tactic(auto, using(crate::proofs::Here::space_here))]
@@ -79,7 +78,7 @@ fn text_piece(bytes: &[u8]) -> Result<Piece, Fault>
 {
     match text_end(after(bytes, 1)) {
         None => Err(Fault {
-            code: LexCode::L04,
+            code: Code::L04,
             at: 0,
         }),
         Some(n) => match first_high(&bytes[..n + 1]) {
@@ -88,7 +87,7 @@ fn text_piece(bytes: &[u8]) -> Result<Piece, Fault>
                 kind: Some(TokenKind::Text),
             }),
             Some(at) => Err(Fault {
-                code: LexCode::L01,
+                code: Code::L01,
                 at,
             }),
         },

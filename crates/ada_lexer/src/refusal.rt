@@ -1,41 +1,39 @@
-use spark_base::{NoMemory, Pos};
+ghost use Rattle.std.specs.Prelude.{◌≡◌, IfOk, Err};
+ghost use Rattle.ada_lexer.specs.Answer as answer;
+ghost use Rattle.ada_lexer.specs.Answer.{Fails};
 
-/// Why a source has no tokens.
-#[derive(Clone, Copy, Debug, PartialEq, Eq)]
-pub enum LexCode {
-    /// More than 4,194,304 bytes.
-    X01,
-    /// A byte above 127 outside a comment.
-    L01,
-    /// A malformed number.
-    L02,
-    /// A number of 2 ** 128 or more.
-    L03,
-    /// A byte with which no token begins, or a text that does not end in its line.
-    L04,
-}
+use spark_base::{Bytes, FileNo, NoMemory, Pos};
+use spark_messages::message_texts::refusal_text;
+use spark_messages::{Code, Kind, Message, PhaseFault};
+use std::alloc::Global;
 
 /// The first refusal in a source.
-#[derive(Clone, Copy, Debug, PartialEq, Eq)]
+#[derive(Clone, Copy, Debug)]
 pub struct Refusal {
-    pub code: LexCode,
+    pub code: Code,
     pub place: Pos,
 }
 
-/// Why a call gave no tokens: the source is refused, or memory was.
-#[derive(Clone, Copy, Debug, PartialEq, Eq)]
-pub enum LexFault {
-    Refused(Refusal),
-    NoMemory,
+/// The message of a refusal.
+fn message_of(alloc: Global, file: FileNo, refusal: Refusal) -> Result<Message, NoMemory>
+    ensures { IfOk result (λ m. m ≡ answer.message_of file refusal) }
+{
+    let text = refusal_text(refusal.code);
+    Ok(Message {
+        file,
+        place: refusal.place,
+        code: refusal.code,
+        text: Bytes::from_slice(alloc, text.as_bytes())?,
+        kind: Kind::Refused,
+    })
 }
 
-impl From<NoMemory> for LexFault {
-    ghost use Rattle.std.specs.Prelude.{◌≡◌};
-    ghost use Rattle.ada_lexer.specs.declared.refusal.LexFault.TheVariants.{NoMemory as TheNoMemory};
-
-    ghost from_gives = { λ _ f. f ≡ TheNoMemory };
-
-    fn from(_: NoMemory) -> Self {
-        LexFault::NoMemory
+/// A refusal of a file, or want of memory for its message.
+pub fn refused(alloc: Global, file: FileNo, refusal: Refusal) -> PhaseFault
+    ensures { Fails file result (Err refusal) }
+{
+    match message_of(alloc, file, refusal) {
+        Ok(message) => PhaseFault::Refused(message),
+        Err(NoMemory) => PhaseFault::NoMemory,
     }
 }

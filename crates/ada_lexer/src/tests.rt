@@ -1,20 +1,33 @@
-use crate::{LexCode, LexFault, Mark, Refusal, Reserved, Token, TokenKind, Tokens, lex};
+use crate::lex;
+use ada_tree::{Mark, Reserved, Token, TokenKind, Tokens};
 use spark_base::{Bytes, FileNo, NoMemory, Pos, Span};
+use spark_messages::{Code, Kind, Message, PhaseFault};
 use std::alloc::Global;
 use std::test::Fail;
 
 const FILE: FileNo = FileNo(7);
 
-fn tokens_of(alloc: Global, source: &[u8]) -> Result<Tokens, LexFault> {
+fn tokens_of(alloc: Global, source: &[u8]) -> Result<Tokens, PhaseFault> {
     lex(alloc, FILE, Bytes::from_slice(alloc, source)?)
 }
 
-fn refusal_of(alloc: Global, source: &[u8]) -> Result<Option<Refusal>, NoMemory> {
+fn refusal_of(alloc: Global, source: &[u8]) -> Result<Option<Message>, NoMemory> {
     match tokens_of(alloc, source) {
         Ok(_) => Ok(None),
-        Err(LexFault::Refused(refusal)) => Ok(Some(refusal)),
-        Err(LexFault::NoMemory) => Err(NoMemory),
+        Err(PhaseFault::Refused(message)) => Ok(Some(message)),
+        Err(PhaseFault::NoMemory) => Err(NoMemory),
     }
+}
+
+/// A message of a refusal.
+fn message(alloc: Global, code: Code, place: Pos, text: &str) -> Result<Message, NoMemory> {
+    Ok(Message {
+        file: FILE,
+        place,
+        code,
+        text: Bytes::from_slice(alloc, text.as_bytes())?,
+        kind: Kind::Refused,
+    })
 }
 
 /// A token of one line, by its bytes and its columns.
@@ -88,31 +101,48 @@ fn counts_and_last_kinds(rt: HostRuntime) -> Result<(), Fail> {
 #[test]
 fn refusals_stand_at_their_places(rt: HostRuntime) -> Result<(), Fail> {
     let sources = [
-        (b"1_".as_slice(), LexCode::L02, 1, 1),
-        (b"1E-1".as_slice(), LexCode::L02, 1, 1),
-        (b"2#2#".as_slice(), LexCode::L02, 1, 1),
-        (b"1.5".as_slice(), LexCode::L02, 1, 1),
-        (b"16#F#_".as_slice(), LexCode::L04, 1, 6),
-        (b"1E1#".as_slice(), LexCode::L04, 1, 4),
-        (b"\"a\"\"b\n".as_slice(), LexCode::L04, 1, 1),
-        (b"\"\xC8\n".as_slice(), LexCode::L04, 1, 1),
-        (b"\"\xC8\"".as_slice(), LexCode::L01, 1, 2),
-        (b"x\n \xC8".as_slice(), LexCode::L01, 2, 2),
-        (b"A__B".as_slice(), LexCode::L04, 1, 2),
-        (b"\x7F".as_slice(), LexCode::L04, 1, 1),
+        (b"1_".as_slice(), Code::L02, 1, 1, "malformed number"),
+        (b"1E-1".as_slice(), Code::L02, 1, 1, "malformed number"),
+        (b"2#2#".as_slice(), Code::L02, 1, 1, "malformed number"),
+        (b"1.5".as_slice(), Code::L02, 1, 1, "malformed number"),
+        (b"16#F#_".as_slice(), Code::L04, 1, 6, "unknown character"),
+        (b"1E1#".as_slice(), Code::L04, 1, 4, "unknown character"),
+        (
+            b"\"a\"\"b\n".as_slice(),
+            Code::L04,
+            1,
+            1,
+            "unknown character",
+        ),
+        (b"\"\xC8\n".as_slice(), Code::L04, 1, 1, "unknown character"),
+        (
+            b"\"\xC8\"".as_slice(),
+            Code::L01,
+            1,
+            2,
+            "byte outside ASCII",
+        ),
+        (
+            b"x\n \xC8".as_slice(),
+            Code::L01,
+            2,
+            2,
+            "byte outside ASCII",
+        ),
+        (b"A__B".as_slice(), Code::L04, 1, 2, "unknown character"),
+        (b"\x7F".as_slice(), Code::L04, 1, 1, "unknown character"),
         (
             b"340282366920938463463374607431768211456".as_slice(),
-            LexCode::L03,
+            Code::L03,
             1,
             1,
+            "number past 128 bits",
         ),
     ];
-    for (source, code, line, col) in sources {
+    for (source, code, line, col, text) in sources {
         let place = Pos { line, col };
-        assert_eq!(rt;
-            refusal_of(rt.alloc(), source)?,
-            Some(Refusal { code, place })
-        );
+        let message = message(rt.alloc(), code, place, text)?;
+        assert_eq!(rt; refusal_of(rt.alloc(), source)?, Some(message));
     }
     Ok(())
 }
@@ -121,11 +151,9 @@ fn refusals_stand_at_their_places(rt: HostRuntime) -> Result<(), Fail> {
 fn a_source_has_a_limit(rt: HostRuntime) -> Result<(), Fail> {
     let alloc = rt.alloc();
     let blanks = vec![in alloc; b' '; 4_194_305]?;
-    let refusal = Refusal {
-        code: LexCode::X01,
-        place: Pos { line: 1, col: 1 },
-    };
-    assert_eq!(rt; refusal_of(alloc, &blanks)?, Some(refusal));
+    let place = Pos { line: 1, col: 1 };
+    let message = message(alloc, Code::X01, place, "too many bytes")?;
+    assert_eq!(rt; refusal_of(alloc, &blanks)?, Some(message));
     assert_eq!(rt; refusal_of(alloc, &blanks[1..])?, None);
     Ok(())
 }

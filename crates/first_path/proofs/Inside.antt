@@ -4,7 +4,7 @@ use Rattle.std.proofs.lemmas.List.Elements.{All-nil, All-cons}
 use Rattle.std.proofs.lemmas.Result.{IfOk-at_ok}
 use Rattle.ada_lexer.specs.Cut.{lexed}
 use Rattle.ada_lexer.specs.Laws.{InOrder}
-use Rattle.ada_lexer.specs.declared.token.Token.{Token}
+use Rattle.ada_tree.specs.declared.token.Token.{Token}
 use Rattle.spark_base.specs.declared.numbers.FileNo.{FileNo}
 use Rattle.first_path.specs.Symbols.{IsInside}
 

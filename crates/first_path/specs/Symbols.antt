@@ -3,13 +3,13 @@ use Rattle.std.specs.Prelude.{◌≡◌, ℕ, ◌≤◌, ◌&&◌, nat_le, if◌
 use Rattle.std.specs.Char.{is_ascii_digit}
 use Rattle.std.specs.List.{list_all}
 use Rattle.ada_lexer.specs.Cut.{lexed}
-use Rattle.ada_lexer.specs.declared.token.Mark.{Mark}
-use Rattle.ada_lexer.specs.declared.token.Mark.TheVariants as marks
-use Rattle.ada_lexer.specs.declared.token.Token.{Token}
-use Rattle.ada_lexer.specs.declared.token.TokenKind.{TokenKind}
-use Rattle.ada_lexer.specs.declared.token.TokenKind.TheVariants as kinds
-use Rattle.ada_lexer.specs.declared.words.Reserved.{Reserved}
-use Rattle.ada_lexer.specs.declared.words.Reserved.TheVariants as words
+use Rattle.ada_tree.specs.declared.token.Mark.{Mark}
+use Rattle.ada_tree.specs.declared.token.Mark.TheVariants as marks
+use Rattle.ada_tree.specs.declared.token.Token.{Token}
+use Rattle.ada_tree.specs.declared.token.TokenKind.{TokenKind}
+use Rattle.ada_tree.specs.declared.token.TokenKind.TheVariants as kinds
+use Rattle.ada_tree.specs.declared.words.Reserved.{Reserved}
+use Rattle.ada_tree.specs.declared.words.Reserved.TheVariants as words
 use Rattle.spark_base.specs.declared.numbers.FileNo.{FileNo}
 use Rattle.spark_base.specs.declared.numbers.Span.{Span}
 use Rattle.first_path.specs.declared.source.Sign.TheVariants as signs

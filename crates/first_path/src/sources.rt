@@ -7,8 +7,10 @@ use crate::reading::ReadFault;
 use crate::source::Source;
 use crate::symbols::symbols_of;
 use crate::units::source;
-use ada_lexer::{LexFault, Tokens, lex, tokens_in_order};
+use ada_lexer::{lex, tokens_in_order};
+use ada_tree::Tokens;
 use spark_base::{Bytes, FileNo, NoMemory};
+use spark_messages::PhaseFault;
 use std::alloc::Global;
 
 /// The source that tokens spell, and none where they spell none.
@@ -35,7 +37,7 @@ pub fn reading_of(alloc: Global, file: FileNo, bytes: Bytes) -> Result<Option<So
             tokens_in_order();
             spelled_by(alloc, &tokens)
         }
-        Err(LexFault::Refused(_)) => Ok(None),
-        Err(LexFault::NoMemory) => Err(NoMemory),
+        Err(PhaseFault::Refused(_)) => Ok(None),
+        Err(PhaseFault::NoMemory) => Err(NoMemory),
     }
 }

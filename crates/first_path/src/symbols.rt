@@ -5,7 +5,7 @@ ghost use Rattle.first_path.specs.Symbols as spec;
 ghost use Rattle.first_path.specs.Symbols.{IsInside};
 
 use crate::source::{Sign, Symbol, Word};
-use ada_lexer::{Mark, Reserved, Token, TokenKind, Tokens};
+use ada_tree::{Mark, Reserved, Token, TokenKind, Tokens};
 use spark_base::{Bytes, NoMemory};
 use std::alloc::Global;
 use std::collections::VecDeque;

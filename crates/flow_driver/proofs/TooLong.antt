@@ -2,7 +2,7 @@
 use Rattle.std.proofs.Common.{◌≡◌, ℕ, ◌<◌, List, length, true, Option, Some, None, Ok, refl, subst, nat_lt}
 use Rattle.std.proofs.lemmas.Bool.{lt-ltb}
 use Rattle.ada_lexer.specs.Cut.{lexed}
-use Rattle.ada_lexer.specs.declared.token.Token.{Token}
+use Rattle.ada_tree.specs.declared.token.Token.{Token}
 use Rattle.spark_base.specs.declared.numbers.FileNo.{FileNo}
 use Rattle.core_form.specs.declared.program.Program.{Program}
 use Rattle.flow_driver.specs.Report.{IsReading, IsReportOf, HasReport}

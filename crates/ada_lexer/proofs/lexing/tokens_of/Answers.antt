@@ -1,5 +1,6 @@
-use Rattle.std.proofs.Common.{◌≡◌, ◌+◌, length, drop, false, length-take, ap, sym, ◌∙◌, arith}
+use Rattle.std.proofs.Common.{◌≡◌, ◌+◌, length, drop, false, length-take, ap, sym, subst, ◌∙◌, arith}
 use Rattle.ada_lexer.specs.Cut.{piece_at, cut_from, after_tokens, place}
+use Rattle.ada_lexer.specs.Answer.{Fails}
 use Rattle.ada_lexer.proofs.Cuts.{one_piece, one_fault, place_step, some_left, piece_within, spanned, place_end}
 use Rattle.ada_lexer.proofs.lexing.tokens_of.Goals as goal
 
@@ -19,9 +20,9 @@ loop-at-preserved c =
     }
 
 pub returns-in-Err-clause-err : goal.returns-in-Err-clause-err
-returns-in-Err-clause-err c = one_fault c.args.file c.args.bytes.now c.loop-at.at c.loop-at.ticked c.loop-at.tokens c.in-Err.fault (cut_from c.args.file c.args.bytes.now 0 0 false c.args.bytes.now) c.moved.result
+returns-in-Err-clause-err c = subst (Fails c.args.file c.refused.result) (sym (one_fault c.args.file c.args.bytes.now c.loop-at.at c.loop-at.ticked c.loop-at.tokens c.in-Err.fault (cut_from c.args.file c.args.bytes.now 0 0 false c.args.bytes.now) c.moved.result
     (some_left c.args.bytes.now c.loop-at.at c.loop-at-test.true) (ap (piece_at c.loop-at.ticked) (sym c.after-rest.ensures) ∙ sym c.in-Err.ensures.piece) c.loop-at.invariant.cut
-    (place_step c.args.bytes.now c.loop-at.at c.in-Err.fault.at c.loop-at.place c.moved.result c.after-rest.result.now c.front-in-Err.result.now c.moved.ensures.place c.front-in-Err.ensures c.after-rest.ensures c.loop-at.invariant.place)
+    (place_step c.args.bytes.now c.loop-at.at c.in-Err.fault.at c.loop-at.place c.moved.result c.after-rest.result.now c.front-in-Err.result.now c.moved.ensures.place c.front-in-Err.ensures c.after-rest.ensures c.loop-at.invariant.place))) c.refused.ensures
 
 pub returns-clause-end : goal.returns-clause-end
 returns-clause-end c = place_end c.args.bytes.now c.loop-at.at c.loop-at.place c.loop-at.invariant.place c.loop-at.invariant.within c.loop-at-test.false

@@ -1,9 +1,9 @@
 -- The reserved words.
 use Rattle.std.specs.Prelude.{ℕ, List, [], ◌∷◌, Bool, true, if◌then◌else◌, ◌&&◌, nat_eq, Option, Some, None, codes, length}
 use Rattle.std.specs.Char.{to_ascii_lowercase}
-use Rattle.ada_lexer.specs.declared.words.Reserved.{Reserved}
-use Rattle.ada_lexer.specs.declared.words.Reserved.TheVariants as words
-use Rattle.ada_lexer.specs.declared.words.TheConstants.{RESERVED_WORDS}
+use Rattle.ada_tree.specs.declared.words.Reserved.{Reserved}
+use Rattle.ada_tree.specs.declared.words.Reserved.TheVariants as words
+use Rattle.ada_tree.specs.declared.words.TheConstants.{RESERVED_WORDS}
 
 -- how a reserved word is written
 abbrev pub spelled : Reserved → List ℕ

@@ -1,8 +1,8 @@
 -- Each reserved word is read as itself.
 use Rattle.std.proofs.Common.{◌≡◌, Some, refl}
-use Rattle.ada_lexer.specs.Words.{reserved_of, spelled}
-use Rattle.ada_lexer.specs.declared.words.Reserved.{Reserved}
-use Rattle.ada_lexer.specs.declared.words.Reserved.TheVariants as words
+use Rattle.ada_tree.specs.Words.{reserved_of, spelled}
+use Rattle.ada_tree.specs.declared.words.Reserved.{Reserved}
+use Rattle.ada_tree.specs.declared.words.Reserved.TheVariants as words
 
 pub spelled_words : (word : Reserved) → reserved_of (spelled word) ≡ Some word
 unfolding reserved_of

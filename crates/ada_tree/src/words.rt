@@ -1,5 +1,5 @@
 ghost use Rattle.std.specs.Prelude.{◌≡◌, length};
-ghost use Rattle.ada_lexer.specs.Words as words;
+ghost use Rattle.ada_tree.specs.Words as words;
 
 /// A reserved word of Ada 2012.
 #[derive(Clone, Copy, Debug, PartialEq, Eq)]

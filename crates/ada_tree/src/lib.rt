@@ -1,0 +1,24 @@
+//! The tokens of an Ada source, and the trees that a parser makes of them.
+#![tactic(auto)]
+
+mod aspects;
+mod declarations;
+mod expressions;
+mod laws;
+mod marks;
+mod statements;
+mod token;
+mod units;
+mod words;
+
+pub use aspects::{AspectKind, AspectNode, GlobalMode};
+pub use declarations::{DeclKind, DeclNode, Head};
+pub use expressions::{
+    AddingOperator, ExprKind, ExprNode, LogicalOperator, MultiplyingOperator, RelationalOperator,
+};
+pub use laws::spelled_words;
+pub use marks::{double_mark, single_mark};
+pub use statements::{StmtKind, StmtNode};
+pub use token::{Mark, Token, TokenKind, Tokens};
+pub use units::{Unit, UnitKind, Units};
+pub use words::{RESERVED_WORDS, Reserved, reserved_of, spelled};
