@@ -5,6 +5,6 @@ pub mod Knowing
 pub mod Listing
 pub mod Lowering
 pub mod Proper
-pub mod Rows
+pub mod Entries
 pub mod Seen
 pub mod WellFormed

@@ -16,7 +16,7 @@ use Rattle.first_lower.specs.Assembled.{HasRoots, IsAssembled}
 use Rattle.first_lower.specs.Known.{Each, KnownStatement}
 use Rattle.first_lower.specs.Lowered.{low_leaf, low_var}
 use Rattle.first_lower.specs.declared.program.Roots.{Roots}
-use Rattle.first_lower.proofs.Rows.{All-slice_get, row_here, row_of}
+use Rattle.first_lower.proofs.Entries.{All-slice_get, entry_here, entry_of}
 use Rattle.first_lower.proofs.Seen.{statements_proper, variables_proper}
 use Rattle.first_lower.proofs.WellFormed.{home_is, three_bodies}
 
@@ -28,13 +28,13 @@ module _ (s : Source) (keys : List (List ℕ)) (nodes : Nodes) (r : Roots) (p : 
   -- a variable and its leaf have one number
   leaves_agree : (leaf v : ℕ) (l : Leaf) (var : Var) → slice_get p.leaves leaf ≡ Some l → slice_get p.vars v ≡ Some var → (l.var.0 ≡ v) ↔ ((var.«from».0 ≤ leaf) × (leaf < var.«from».0 + var.count))
   leaves_agree leaf v l var is is' =
-      let row = row_of (low_leaf s.spec.«package») s.spec.variables leaf l (sym (ap (λ rows. slice_get rows leaf) a.leaves) ∙ is) in
-      let other = row_of (low_var s.spec.«package») s.spec.variables v var (sym (ap (λ rows. slice_get rows v) a.vars) ∙ is') in
+      let row = entry_of (low_leaf s.spec.«package») s.spec.variables leaf l (sym (ap (λ rows. slice_get rows leaf) a.leaves) ∙ is) in
+      let other = entry_of (low_var s.spec.«package») s.spec.variables v var (sym (ap (λ rows. slice_get rows v) a.vars) ∙ is') in
       rw (row.1, other.1) (λ e. (omega arith, omega arith), λ h. omega arith)
 
   scalar : (leaf : ℕ) → leaf < length keys → cells_of p leaf ≡ 1
   scalar leaf l =
-      let row = row_here (low_leaf s.spec.«package») s.spec.variables leaf (omega arith) in
+      let row = entry_here (low_leaf s.spec.«package») s.spec.variables leaf (omega arith) in
       cells_through p leaf (low_leaf s.spec.«package» leaf row.0) (ap (λ rows. slice_get rows leaf) a.leaves ∙ row.1)
 
   fresh : (leaf : ℕ) → leaf < length keys → MayClear kinds.Elaboration (home_of p leaf)

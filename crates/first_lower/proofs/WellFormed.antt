@@ -29,7 +29,7 @@ use Rattle.first_lower.specs.Assembled.{HasRoots, IsAssembled, bodies_of}
 use Rattle.first_lower.specs.Known.{Each, KnownWord, KnownEntry, KnownStatement}
 use Rattle.first_lower.specs.Lowered.{each_from, elaboration, low_entry, low_global_item, low_item, low_leaf, low_package, low_procedure, low_var, mode_of}
 use Rattle.first_lower.specs.declared.program.Roots.{Roots}
-use Rattle.first_lower.proofs.Rows.{All-slice_get, all_rows, length_rows, row_here}
+use Rattle.first_lower.proofs.Entries.{All-slice_get, all_entries, length_entries, entry_here}
 use Rattle.first_lower.proofs.Seen.{leaf_below, statements_in, variables_in}
 
 all_none : {X : Type 0} (P : X → Type 0) (xs : List X) → xs ≡ [] → All P xs
@@ -62,13 +62,13 @@ module _ (s : Source) (keys : List (List ℕ)) (nodes : Nodes) (r : Roots) (p : 
   -- Each table has a row for each variable
 
   pub length_leaves : length p.leaves ≡ length keys
-  length_leaves = ap length a.leaves ∙ length_rows (low_leaf s.spec.«package») 0 s.spec.variables ∙ sym same
+  length_leaves = ap length a.leaves ∙ length_entries (low_leaf s.spec.«package») 0 s.spec.variables ∙ sym same
 
   pub length_vars : length p.vars ≡ length keys
-  length_vars = ap length a.vars ∙ length_rows (low_var s.spec.«package») 0 s.spec.variables ∙ sym same
+  length_vars = ap length a.vars ∙ length_entries (low_var s.spec.«package») 0 s.spec.variables ∙ sym same
 
   length_items : length p.items ≡ length keys
-  length_items = ap length a.items ∙ length_rows low_item 0 s.spec.variables ∙ sym same
+  length_items = ap length a.items ∙ length_entries low_item 0 s.spec.variables ∙ sym same
 
   one_package : 0 < length p.packages
   one_package = let e = ap length a.packages in omega arith
@@ -76,18 +76,18 @@ module _ (s : Source) (keys : List (List ℕ)) (nodes : Nodes) (r : Roots) (p : 
   fine_leaves : All (λ (l : Leaf). l.var.0 < length p.vars) p.leaves
   fine_leaves =
       All-same (λ (l : Leaf). l.var.0 < length p.vars) p.leaves (each_from (low_leaf s.spec.«package») 0 s.spec.variables) a.leaves
-      (all_rows (low_leaf s.spec.«package») (λ (l : Leaf). l.var.0 < length p.vars) (length keys) (λ i v l. omega (arith, length_vars)) 0 s.spec.variables (omega arith))
+      (all_entries (low_leaf s.spec.«package») (λ (l : Leaf). l.var.0 < length p.vars) (length keys) (λ i v l. omega (arith, length_vars)) 0 s.spec.variables (omega arith))
 
   fine_var : (i : ℕ) (v : Variable) → i < length keys → IsFineVar p (low_var s.spec.«package» i v)
   fine_var i v l = record { home = one_package; state = tt; sharing = tt; leaves = omega (arith, length_leaves) }
 
   fine_vars : All (IsFineVar p) p.vars
   fine_vars = All-same (IsFineVar p) p.vars (each_from (low_var s.spec.«package») 0 s.spec.variables) a.vars
-      (all_rows (low_var s.spec.«package») (IsFineVar p) (length keys) fine_var 0 s.spec.variables (omega arith))
+      (all_entries (low_var s.spec.«package») (IsFineVar p) (length keys) fine_var 0 s.spec.variables (omega arith))
 
   fine_items : All (IsFineItem p) p.items
   fine_items = All-same (IsFineItem p) p.items (each_from low_item 0 s.spec.variables) a.items
-      (all_rows low_item (IsFineItem p) (length keys) (λ i v l. omega (arith, length_vars)) 0 s.spec.variables (omega arith))
+      (all_entries low_item (IsFineItem p) (length keys) (λ i v l. omega (arith, length_vars)) 0 s.spec.variables (omega arith))
 
   fine_elaboration : (home at : Word) (code : StmtNo) (in_spec : Bool) → code.0 < length nodes.stmts → IsFineBody p (elaboration home at code in_spec)
   fine_elaboration home at code in_spec l = record {
@@ -136,8 +136,8 @@ module _ (s : Source) (keys : List (List ℕ)) (nodes : Nodes) (r : Roots) (p : 
   -- the variables are those of the package
   pub home_is : (leaf : ℕ) → leaf < length keys → home_of p leaf ≡ Some (home.Package (record { 0 = 0 }))
   home_is leaf l =
-      let row = row_here (low_leaf s.spec.«package») s.spec.variables leaf (omega arith) in
-      let var = row_here (low_var s.spec.«package») s.spec.variables leaf (omega arith) in
+      let row = entry_here (low_leaf s.spec.«package») s.spec.variables leaf (omega arith) in
+      let var = entry_here (low_var s.spec.«package») s.spec.variables leaf (omega arith) in
       home_through p leaf (low_leaf s.spec.«package» leaf row.0) (low_var s.spec.«package» leaf var.0) (ap (λ rows. slice_get rows leaf) a.leaves ∙ row.1) (ap (λ rows. slice_get rows leaf) a.vars ∙ var.1)
 
   seen : (b leaf : ℕ) → leaf < length keys → IsSeenIn p b leaf
