@@ -1,6 +1,5 @@
 pub mod Adding
 pub mod Found
-pub mod Items
 pub mod Knowing
 pub mod Listing
 pub mod Lowering

@@ -36,10 +36,6 @@ pub each_below : (n : ℕ) (ss : List StmtNo) → Each (λ s. s.0 < n) ss → St
 each_below n [] h = All-nil (λ (s : StmtNo). s.0 < n)
 each_below n (s ∷ ss) h = All-cons (λ (x : StmtNo). x.0 < n) s ss h.0 (each_below n ss h.1)
 
--- nothing is added
-pub lists_none : (a : Nodes) (ss : List StmtNo) → Adds a a → Each (λ s. s.0 < length a.stmts) ss → Lists a a ss ss (λ rest. rest)
-lists_none a ss h w = record { adds = h; within = w; codes = λ rest. refl }
-
 -- a statement is added
 pub lists_one : (a b : Nodes) (ss : List StmtNo) (s : StmtNo) (code : Code) → Adds a b → Each (λ x. x.0 < length a.stmts) ss → s.0 < length b.stmts → code_of b.exprs b.stmts s ≡ code → Lists a b ss (ss ++ s ∷ []) (Then code)
 lists_one a b ss s code h w l is = record {

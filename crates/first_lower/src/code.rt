@@ -1,6 +1,6 @@
 ghost use Rattle.std.specs.Prelude.{◌≡◌, ◌∷◌, ◌+◌, ◌<◌, ◌^◌, [], pos, IfOk, OnOk, length};
 ghost use Rattle.core_form.specs.Added.{AreFineNodes};
-ghost use Rattle.core_form.specs.Code.{Clear, Assign, Constant, Then, Skip, code_of};
+ghost use Rattle.core_form.specs.Code.{Assign, Constant, Skip, code_of};
 ghost use Rattle.first_conditions.specs.Conditions.{statements_of};
 ghost use Rattle.first_lower.specs.Known.{Each, KnownWord, KnownSum, KnownStatement};
 ghost use Rattle.first_lower.specs.Lowered.{leaf_of, whole, checked, low_sum, low_statement, low_statements, low_variable, low_variables};

@@ -1,7 +1,6 @@
 -- The leaves of a variable, one after another.
-use Rattle.std.proofs.Common.{◌≡◌, ℕ, zero, suc, ◌+◌, ◌-◌, ◌<◌, ◌≤◌, ◌⊎◌, ◌↔◌, inl, inr, Bool, true, false, not, ◌||◌, ◌&&◌, nat_eq, List, [], ◌∷◌, length, drop, get_or, Some, refl, ap, sym, ◌∙◌, add-one, arith}
+use Rattle.std.proofs.Common.{◌≡◌, ℕ, zero, suc, ◌+◌, ◌-◌, ◌<◌, ◌≤◌, ◌⊎◌, ◌↔◌, inl, inr, Bool, true, false, not, ◌||◌, ◌&&◌, nat_eq, List, [], ◌∷◌, length, drop, Some, refl, ap, sym, ◌∙◌, add-one, arith}
 use Rattle.std.specs.Prelude.{slice_get}
-use Rattle.std.proofs.Math.Seq.{drop-cons}
 use Rattle.core_form.specs.declared.contract.GlobalItem.{GlobalItem}
 use Rattle.flow_driver.specs.GlobalCheck.{some_leaf, is_listed, is_proof_in}
 
@@ -31,10 +30,6 @@ or_step false false H K h = (
 -- one item more is listed
 pub listed_more : (g : GlobalItem) (gs : List GlobalItem) (i : ℕ) (H K : Type 0) → (K ↔ (H ⊎ (is_listed (g ∷ []) i ≡ true))) → (K ⊎ (is_listed gs i ≡ true)) ↔ (H ⊎ (is_listed (g ∷ gs) i ≡ true))
 listed_more g gs i H K h = or_step (nat_eq g.item.0 i && not (is_proof_in g.mode)) (is_listed gs i) H K h
-
--- one item more of a list
-pub next_item : {A : Type 0} (xs : List A) (i : ℕ) (x : A) → i < length xs → x ≡ get_or xs i x → drop i xs ≡ x ∷ drop (i + 1) xs
-next_item xs i x within is = rw add-one (drop-cons xs i x within ∙ ap (λ y. y ∷ drop (suc i) xs) (sym is))
 
 drop_get_suc : {A : Type 0} (xs : List A) (i : ℕ) (x : A) → slice_get xs i ≡ Some x → drop i xs ≡ x ∷ drop (suc i) xs
 drop_get_suc [] zero x h = absurd cc

@@ -42,7 +42,7 @@ AreSources told gaps names sources = IfSome told (λ files. sources_of files gap
 abbrev pub has_errors : List Message → Bool
 has_errors list = list_any (λ m. is_grave m.kind) list
 
--- 2 for refusals, 1 for a flow error, 0 for silence
+-- 2 for refusals, 1 for a flow error, 0 for a report without an error
 abbrev pub verdict : Report → ℕ
 verdict r = if r.refused then 2 else if has_errors r.messages then 1 else 0
 

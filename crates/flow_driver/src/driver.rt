@@ -1,6 +1,6 @@
 ghost use Rattle.std.specs.Prelude.{◌≡◌, [], ◌∷◌, length, ◌⊎◌, ◌≤◌, ◌++◌, ◌↔◌, true, false, IsTrue, map, string_bytes, codes};
 ghost use Rattle.source_io.specs.Counts.{Rose, Grew};
-ghost use Rattle.flow_driver.specs.Run.{has_errors, verdict, are_accepted, IsCountedBy, IsPrinted, IsPartlyPrinted, GrewByPart, Complains};
+ghost use Rattle.flow_driver.specs.Run.{has_errors, verdict};
 ghost use Rattle.flow_driver.specs.Ending.{Prints, IsStatus, CountsReadFault, CountsWriteFault, AsksNames};
 
 use crate::{ReadFault, Report, read_all, report_of};
@@ -12,9 +12,13 @@ use std::alloc::Global;
 /// How a run ended.
 #[derive(Clone, Copy, Debug, PartialEq, Eq)]
 pub enum Ending {
+    /// The whole text was printed. The status is 0, 1 or 2.
     Printed { status: u8 },
+    /// The file of the name at this place, from 0, could not be read.
     CannotRead { at: usize },
+    /// A front part of the text was printed.
     WriteFailed,
+    /// Want of memory, with a front part of the text or nothing.
     NoMemory,
 }
 

@@ -22,7 +22,9 @@ pub const LIMIT: u32 = 4_194_304;
 /// What the analysis of a source says: its refusals, or else the messages of the flow.
 #[derive(Debug, Drop)]
 pub struct Report {
+    /// In order, each once.
     pub messages: Items<Message>,
+    /// Whether the messages are refusals.
     pub refused: bool,
 }
 

@@ -123,6 +123,12 @@ pub fn run_clean<E: Sink, G: Turnstile>(
     ensures range { (result ≤ 3) ⊎ (result ≡ 6) }
     ensures words { (result ≡ 3) ↔ (are_accepted (map string_bytes words.now) ≡ false) }
     ensures printed { result ≤ 2 → IsPrinted files_told (λ _. true) bytes_held (map string_bytes words.now) result files.old out.old out.new }
+    ensures untouched { result ≡ 3 → bytes_held out.new ≡ bytes_held out.old }
+    ensures given_up { result ≡ 6 → (bytes_held out.new ≡ bytes_held out.old)
+        ⊎ IsPartlyPrinted files_told (λ _. true) bytes_held (map string_bytes words.now) files.old out.old out.new }
+    ensures silent { result ≤ 2 → E.held err.new ≡ E.held err.old }
+    ensures words_line { result ≡ 3 → Complains E.held E.faults E.wants (codes "sparkflow: words refused\n") err.old err.new }
+    ensures memory_line { result ≡ 6 → Complains E.held E.faults E.wants (codes "sparkflow: out of memory\n") err.old err.new }
 {
     run_words(alloc, words, files, out, err, gate)
 }

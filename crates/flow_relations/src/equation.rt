@@ -202,6 +202,8 @@ fn row_from(alloc: Global, facts: Facts, named: Row) -> Result<BodyRow, NoMemory
 }
 
 /// The row of a body by its code: its own leaves but the formals of modes in and in out begin unassigned.
+///
+/// A program of more than 16,384 leaves is want of memory, since a square of flags takes a byte for each pair.
 pub fn row_of_body(alloc: Global, program: &Program, body: BodyNo) -> Result<BodyRow, NoMemory>
     requires fine { IsWellFormed program.now }
     requires in_range { body.0 < length program.now.bodies }

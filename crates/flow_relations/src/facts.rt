@@ -101,7 +101,7 @@ pub fn then_facts(alloc: Global, void: u32, a: &Facts, b: &Facts) -> Result<Fact
     Ok(f)
 }
 
-/// Makes the first statement the choice of both, by a test.
+/// Becomes the facts of an `if`: those of the one branch or of the other, by a test.
 pub fn branch_with(a: &mut Facts, test: &Row, b: &Facts)
     requires test { length test.now ≡ length a.old.reads }
     requires first { AreSized (length a.old.reads) a.old }

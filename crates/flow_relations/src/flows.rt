@@ -57,6 +57,8 @@ impl MadeWith<Global> for End {
 }
 
 /// The flow of the code of a body. Its rows have a place for each leaf and one more, for "not assigned".
+///
+/// A program of more than 16,384 leaves is want of memory, since a square of flags takes a byte for each pair.
 pub fn flow_of(alloc: Global, program: &Program, body: BodyNo) -> Result<Flow, NoMemory>
     requires fine { IsWellFormed program.now }
     requires in_range { body.0 < length program.now.bodies }

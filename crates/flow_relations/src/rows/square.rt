@@ -98,15 +98,6 @@ impl Square {
         into.copy_from(&self.rows[a as usize]);
     }
 
-    /// Becomes the other set of pairs.
-    pub fn copy_from(&mut self, other: &Square)
-        requires { length other.now ≡ length self.old }
-        ensures size { length self.new ≡ length self.old }
-        ensures set { TellsPairs self.new (λ a b. Relates other.now a b) }
-    {
-        copy_rows(self.rows.as_mut_slice(), other.rows.as_slice())
-    }
-
     /// Adds to `into` each number that is related to itself.
     pub fn diagonal_into(&self, into: &mut Row)
         requires { length into.old ≡ length self.now }
@@ -340,29 +331,6 @@ fn back_at(rows: &[Row], row: &Row, into: &mut Row, a: usize)
     if rows[a].meets(row) {
         into.add(a as u32);
     }
-}
-
-fn copy_rows(into: &mut [Row], from: &[Row])
-    requires wide { AreWide (length into.old) into.old }
-    requires from { length from.now ≡ length into.old }
-    requires from_wide { AreWide (length into.old) from.now }
-    ensures wide { AreWide (length into.old) into.new }
-    ensures set { TellsPairs into.new (λ a b. Relates from.now a b) }
-{
-    for a in 0..into.len() {
-        copy_at(into, from, a);
-    }
-}
-
-fn copy_at(into: &mut [Row], from: &[Row], a: usize)
-    requires in_range { a < length into.old }
-    requires wide { AreWide (length into.old) into.old }
-    requires from { length from.now ≡ length into.old }
-    requires from_wide { AreWide (length into.old) from.now }
-    ensures wide { AreWide (length into.old) into.new }
-    ensures set { TellsPairs into.new (λ x b. ((x ≢ a) × Relates into.old x b) ⊎ ((x ≡ a) × Relates from.now x b)) }
-{
-    into[a].copy_from(&from[a]);
 }
 
 fn diagonal_rows(rows: &[Row], into: &mut Row)
