@@ -3,7 +3,7 @@ use Rattle.std.proofs.Common.{◌≡◌, true, [], map, arith}
 use Rattle.std.proofs.lemmas.List.Sums.{AllPass-from_list_all, list_all-from_AllPass}
 use Rattle.first_path.specs.declared.source.Source.{Source}
 use Rattle.first_conditions.specs.Checks.{IsFitBody, IsFitSpec, are_items, are_known, are_new, keys_of}
-use Rattle.first_conditions.specs.Conditions.{AreDistinct, MeetsConditions, block_words, is_known, item_words, key, variable_keys}
+use Rattle.first_conditions.specs.Conditions.{AreDistinct, MeetsConditions, is_known, item_words, key, lines_words, variable_keys}
 use Rattle.first_conditions.proofs.Distinct.{distinct_when_new, new_when_distinct, items_parts}
 
 pub fit_spec : (s : Source) → MeetsConditions s → IsFitSpec s.spec
@@ -18,8 +18,8 @@ fit_body s m = record {
   short = m.short;
 }
 
-pub known_names : (s : Source) → MeetsConditions s → are_known (variable_keys s.spec.variables) (block_words s.body.procedure.block) ≡ true
-known_names s m = list_all-from_AllPass (λ w. is_known (variable_keys s.spec.variables) (key w)) (block_words s.body.procedure.block) m.names
+pub known_names : (s : Source) → MeetsConditions s → are_known (variable_keys s.spec.variables) (lines_words s.body.procedure.lines) ≡ true
+known_names s m = list_all-from_AllPass (λ w. is_known (variable_keys s.spec.variables) (key w)) (lines_words s.body.procedure.lines) m.names
 
 pub fit_items : (s : Source) → MeetsConditions s → are_items (variable_keys s.spec.variables) [] (item_words s.spec.procedure.global) ≡ true
 fit_items s m =
@@ -29,7 +29,7 @@ fit_items s m =
 
 pub meets : (s : Source) → IsFitSpec s.spec → IsFitBody s.spec s.body → AreDistinct (keys_of s.spec)
     → are_items (variable_keys s.spec.variables) [] (item_words s.spec.procedure.global) ≡ true
-    → are_known (variable_keys s.spec.variables) (block_words s.body.procedure.block) ≡ true → MeetsConditions s
+    → are_known (variable_keys s.spec.variables) (lines_words s.body.procedure.lines) ≡ true → MeetsConditions s
 meets s spec body distinct items names =
     let parts = items_parts (variable_keys s.spec.variables) [] (item_words s.spec.procedure.global) in
     let known : are_known (variable_keys s.spec.variables) (item_words s.spec.procedure.global) ≡ true = grind (arith, parts, items) in
@@ -47,6 +47,6 @@ meets s spec body distinct items names =
       package_end = body.package_end;
       items = AllPass-from_list_all (λ w. is_known (variable_keys s.spec.variables) (key w)) (item_words s.spec.procedure.global) known;
       once = distinct_when_new (map key (item_words s.spec.procedure.global)) new;
-      names = AllPass-from_list_all (λ w. is_known (variable_keys s.spec.variables) (key w)) (block_words s.body.procedure.block) names;
+      names = AllPass-from_list_all (λ w. is_known (variable_keys s.spec.variables) (key w)) (lines_words s.body.procedure.lines) names;
       short = body.short;
     }

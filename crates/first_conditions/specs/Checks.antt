@@ -4,7 +4,7 @@ use Rattle.std.specs.List.{list_all}
 use Rattle.first_path.specs.declared.source.PackageBody.{PackageBody}
 use Rattle.first_path.specs.declared.source.Spec.{Spec}
 use Rattle.first_path.specs.declared.source.Word.{Word}
-use Rattle.first_conditions.specs.Conditions.{key, variable_keys, mode_named, entries_of, statements_of, is_known, IsFree, IsShort}
+use Rattle.first_conditions.specs.Conditions.{key, variable_keys, mode_named, entries_of, is_known, IsFree, IsShort}
 
 -- the keys that a spec declares
 abbrev pub keys_of : Spec → List (List ℕ)
@@ -18,13 +18,13 @@ pub record IsFitSpec (s : Spec) : Type 0 where
   pub free : All (IsFree (key s.«package»)) (keys_of s)
   pub end : IfSome s.end (λ w. key w ≡ key s.«package»)
 
--- a body beside its spec: its names, and how long its sums are
+-- a body beside its spec: its names, and how long its expressions are
 pub record IsFitBody (s : Spec) (b : PackageBody) : Type 0 where
   pub «package» : key b.«package» ≡ key s.«package»
   pub procedure : key b.procedure.name ≡ key s.procedure.name
   pub procedure_end : IfSome b.procedure.end (λ w. key w ≡ key s.procedure.name)
   pub package_end : IfSome b.end (λ w. key w ≡ key s.«package»)
-  pub short : All IsShort (statements_of b.procedure.block)
+  pub short : All IsShort b.procedure.lines
 
 -- each key is new to those seen, and to those before it
 abbrev pub are_new : List (List ℕ) → List (List ℕ) → Bool

@@ -1,21 +1,20 @@
 -- What a source of the first path meets beside its grammar.
-use Rattle.std.specs.Prelude.{◌≡◌, ◌≢◌, ℕ, ◌≤◌, Bool, true, false, if◌then◌else◌, List, [], ◌∷◌, ◌++◌, map, All, Option, Some, None, IsSome, IfSome, length, codes}
+use Rattle.std.specs.Prelude.{◌≡◌, ◌≢◌, ℕ, ◌+◌, ◌≤◌, Bool, true, false, if◌then◌else◌, List, [], ◌∷◌, ◌++◌, map, All, Option, Some, None, IsSome, IfSome, length, codes}
 use Rattle.std.specs.Char.{to_ascii_lowercase}
 use Rattle.std.specs.List.{flat_map, list_any}
 use Rattle.std.specs.Str.{bytes_eq}
 use Rattle.core_form.specs.declared.contract.Mode.{Mode}
 use Rattle.core_form.specs.declared.contract.Mode.TheVariants as modes
-use Rattle.first_path.specs.declared.source.Block.{Block}
 use Rattle.first_path.specs.declared.source.Entry.{Entry}
 use Rattle.first_path.specs.declared.source.GlobalForm.{GlobalForm}
 use Rattle.first_path.specs.declared.source.GlobalForm.TheVariants as global
+use Rattle.first_path.specs.declared.source.Line.{Line}
+use Rattle.first_path.specs.declared.source.Line.TheVariants as line
 use Rattle.first_path.specs.declared.source.Names.{Names}
 use Rattle.first_path.specs.declared.source.Names.TheVariants as names
 use Rattle.first_path.specs.declared.source.Primary.{Primary}
 use Rattle.first_path.specs.declared.source.Primary.TheVariants as primary
 use Rattle.first_path.specs.declared.source.Source.{Source}
-use Rattle.first_path.specs.declared.source.Statement.{Statement}
-use Rattle.first_path.specs.declared.source.Statement.TheVariants as statement
 use Rattle.first_path.specs.declared.source.Sum.{Sum}
 use Rattle.first_path.specs.declared.source.Variable.{Variable}
 use Rattle.first_path.specs.declared.source.Word.{Word}
@@ -27,7 +26,7 @@ key w = map to_ascii_lowercase w.written
 abbrev pub variable_keys : List Variable → List (List ℕ)
 variable_keys vs = map (λ v. key v.name) vs
 
--- the names in an operand, a sum, a statement, a list of statements
+-- the names in an operand, a sum, a line, lines
 abbrev pub primary_words : Primary → List Word
 primary_words (primary.Name w) = w ∷ []
 primary_words (primary.Number n) = []
@@ -35,20 +34,23 @@ primary_words (primary.Number n) = []
 abbrev pub sum_words : Sum → List Word
 sum_words s = primary_words s.first ++ flat_map (λ t. primary_words t.operand) s.more
 
-abbrev pub statement_words : Statement → List Word
-statement_words statement.Null = []
-statement_words (statement.Assign target value) = target ∷ sum_words value
+abbrev pub line_words : Line → List Word
+line_words line.Null = []
+line_words (line.Assign target value) = target ∷ sum_words value
+line_words (line.If test) = sum_words test.left ++ sum_words test.right
+line_words line.Else = []
+line_words line.EndIf = []
 
-abbrev pub statements_of : Block → List Statement
-statements_of b = b.first ∷ b.more
+abbrev pub lines_words : List Line → List Word
+lines_words ls = flat_map line_words ls
 
-abbrev pub block_words : Block → List Word
-block_words b = flat_map statement_words (statements_of b)
-
--- a sum has this many operators at most
-abbrev pub IsShort : Statement → Type 0
-IsShort statement.Null = Unit {0}
-IsShort (statement.Assign target value) = length value.more ≤ 1024
+-- an expression has this many operators at most; a test is one expression, and its relation one of the operators
+abbrev pub IsShort : Line → Type 0
+IsShort line.Null = Unit {0}
+IsShort (line.Assign target value) = length value.more ≤ 1024
+IsShort (line.If test) = length test.left.more + 1 + length test.right.more ≤ 1024
+IsShort line.Else = Unit {0}
+IsShort line.EndIf = Unit {0}
 
 abbrev pub entries_of : GlobalForm → List Entry
 entries_of global.Null = []
@@ -100,5 +102,5 @@ pub record MeetsConditions (s : Source) : Type 0 where
   pub package_end : IfSome s.body.end (λ w. key w ≡ key s.spec.«package»)
   pub items : All (λ w. is_known (variable_keys s.spec.variables) (key w) ≡ true) (item_words s.spec.procedure.global)
   pub once : AreDistinct (map key (item_words s.spec.procedure.global))
-  pub names : All (λ w. is_known (variable_keys s.spec.variables) (key w) ≡ true) (block_words s.body.procedure.block)
-  pub short : All IsShort (statements_of s.body.procedure.block)
+  pub names : All (λ w. is_known (variable_keys s.spec.variables) (key w) ≡ true) (lines_words s.body.procedure.lines)
+  pub short : All IsShort s.body.procedure.lines

@@ -1,12 +1,12 @@
-ghost use Rattle.std.specs.Prelude.{◌≡◌, ◌∷◌, ◌↔◌, map, All, IsSome, IsTrue, IfSome, codes};
+ghost use Rattle.std.specs.Prelude.{◌≡◌, ◌+◌, ◌≤◌, ◌∷◌, ◌↔◌, length, map, All, IsSome, IsTrue, IfSome, codes};
 ghost use Rattle.std.specs.Char.{to_ascii_lowercase};
 ghost use Rattle.first_conditions.specs.Checks.{IsFitBody, IsFitSpec, keys_of};
-ghost use Rattle.first_conditions.specs.Conditions.{IsFree, IsShort, entries_of, key, mode_named, statements_of};
+ghost use Rattle.first_conditions.specs.Conditions.{IsFree, IsShort, entries_of, key, mode_named};
 
 use core_form::Mode;
-use first_path::{Block, Entry, GlobalForm, PackageBody, Spec, Statement, Variable, Word};
+use first_path::{Entry, GlobalForm, Line, PackageBody, Spec, Test, Variable, Word};
 
-/// The most operators of a sum.
+/// The most operators of an expression.
 const MOST_OPERATORS: usize = 1024;
 
 /// Whether the two are the same name.
@@ -97,28 +97,30 @@ fn ends_as(end: &Option<Word>, name: &Word) -> bool
     }
 }
 
-/// Whether a statement's sum is short.
-fn is_short(statement: &Statement) -> bool
-    ensures { IsTrue result ↔ IsShort statement.now }
+/// Whether a test is short. Its relation is an operator, too.
+fn is_short_test(test: &Test) -> bool
+    ensures { IsTrue result ↔ (length test.now.left.more + 1 + length test.now.right.more ≤ 1024) }
 {
-    match statement {
-        Statement::Null => true,
-        Statement::Assign { value, .. } => value.more.len() <= MOST_OPERATORS,
+    let left = test.left.more.len();
+    left < MOST_OPERATORS && test.right.more.len() < MOST_OPERATORS - left
+}
+
+/// Whether a line's expression is short.
+fn is_short(line: &Line) -> bool
+    ensures { IsTrue result ↔ IsShort line.now }
+{
+    match line {
+        Line::Assign { value, .. } => value.more.len() <= MOST_OPERATORS,
+        Line::If(test) => is_short_test(test),
+        Line::Null | Line::Else | Line::EndIf => true,
     }
 }
 
-/// Whether each statement's sum is short.
-fn are_short(statements: &[Statement]) -> bool
-    ensures { IsTrue result ↔ All IsShort statements.now }
+/// Whether each line's expression is short.
+fn are_short(lines: &[Line]) -> bool
+    ensures { IsTrue result ↔ All IsShort lines.now }
 {
-    statements.iter().all(|s| is_short(s))
-}
-
-/// Whether each sum of a block is short.
-fn is_short_block(block: &Block) -> bool
-    ensures { IsTrue result ↔ All IsShort (statements_of block.now) }
-{
-    is_short(&block.first) && are_short(block.more.as_slice())
+    lines.iter().all(|l| is_short(l))
 }
 
 /// Whether each name that a spec declares is free.
@@ -148,5 +150,5 @@ pub fn is_fit_body(spec: &Spec, body: &PackageBody) -> bool
         && is_same(&body.procedure.name, &spec.procedure.name)
         && ends_as(&body.procedure.end, &spec.procedure.name)
         && ends_as(&body.end, &spec.package)
-        && is_short_block(&body.procedure.block)
+        && are_short(body.procedure.lines.as_slice())
 }

@@ -1,12 +1,10 @@
 ghost use Rattle.std.specs.Prelude.{◌≡◌, [], ◌∷◌, ◌++◌, map, is_some, IfNone, IfOk, IfSome, IsTrue};
 ghost use Rattle.std.specs.List.{flat_map};
 ghost use Rattle.first_conditions.specs.Checks.{are_items, are_known, are_new, keys_of};
-ghost use Rattle.first_conditions.specs.Conditions.{AreDistinct, block_words, is_known, item_words, key, primary_words, statement_words, sum_words, variable_keys, words_of};
+ghost use Rattle.first_conditions.specs.Conditions.{AreDistinct, is_known, item_words, key, line_words, lines_words, primary_words, sum_words, variable_keys, words_of};
 
 use crate::names::{KeyTable, key_of};
-use first_path::{
-    Block, Entry, GlobalForm, Names, Primary, Spec, Statement, Sum, Term, Variable, Word,
-};
+use first_path::{Entry, GlobalForm, Line, Names, Primary, Spec, Sum, Term, Test, Variable, Word};
 use spark_base::NoMemory;
 use std::alloc::Global;
 
@@ -50,45 +48,52 @@ fn knows_sum(alloc: Global, known: &KeyTable, sum: &Sum) -> Result<bool, NoMemor
     knows_terms(alloc, known, sum.more.as_slice())
 }
 
-/// Whether the names of a statement are known.
-fn knows_statement(alloc: Global, known: &KeyTable, statement: &Statement) -> Result<bool, NoMemory>
-    ensures { IfOk result (λ b. b ≡ are_known known.now (statement_words statement.now)) }
+/// Whether the names of a test are known.
+fn knows_test(alloc: Global, known: &KeyTable, test: &Test) -> Result<bool, NoMemory>
+    ensures { IfOk result (λ b. b ≡ are_known known.now (sum_words test.now.left ++ sum_words test.now.right)) }
 {
-    match statement {
-        Statement::Null => Ok(true),
-        Statement::Assign { target, value } => {
-            if !knows_word(alloc, known, target)? {
-                return Ok(false);
-            }
-            knows_sum(alloc, known, value)
-        }
+    if !knows_sum(alloc, known, &test.left)? {
+        return Ok(false);
+    }
+    knows_sum(alloc, known, &test.right)
+}
+
+/// Whether the names of an assignment are known.
+fn knows_assignment(
+    alloc: Global,
+    known: &KeyTable,
+    target: &Word,
+    value: &Sum,
+) -> Result<bool, NoMemory>
+    ensures { IfOk result (λ b. b ≡ are_known known.now (target.now ∷ sum_words value.now)) }
+{
+    if !knows_word(alloc, known, target)? {
+        return Ok(false);
+    }
+    knows_sum(alloc, known, value)
+}
+
+/// Whether the names of a line are known.
+fn knows_line(alloc: Global, known: &KeyTable, line: &Line) -> Result<bool, NoMemory>
+    ensures { IfOk result (λ b. b ≡ are_known known.now (line_words line.now)) }
+{
+    match line {
+        Line::Assign { target, value } => knows_assignment(alloc, known, target, value),
+        Line::If(test) => knows_test(alloc, known, test),
+        Line::Null | Line::Else | Line::EndIf => Ok(true),
     }
 }
 
-/// Whether the names of statements are known.
-fn knows_statements(
-    alloc: Global,
-    known: &KeyTable,
-    statements: &[Statement],
-) -> Result<bool, NoMemory>
-    ensures { IfOk result (λ b. b ≡ are_known known.now (flat_map statement_words statements.now)) }
+/// Whether the names of lines are known.
+pub fn knows_lines(alloc: Global, known: &KeyTable, lines: &[Line]) -> Result<bool, NoMemory>
+    ensures { IfOk result (λ b. b ≡ are_known known.now (lines_words lines.now)) }
 {
-    for statement in statements {
-        if !knows_statement(alloc, known, statement)? {
+    for line in lines {
+        if !knows_line(alloc, known, line)? {
             return Ok(false);
         }
     }
     Ok(true)
-}
-
-/// Whether the names of a block are known.
-pub fn knows_block(alloc: Global, known: &KeyTable, block: &Block) -> Result<bool, NoMemory>
-    ensures { IfOk result (λ b. b ≡ are_known known.now (block_words block.now)) }
-{
-    if !knows_statement(alloc, known, &block.first)? {
-        return Ok(false);
-    }
-    knows_statements(alloc, known, block.more.as_slice())
 }
 
 /// Adds a name of a Global, if it is known and new to the table: false says that it is not.

@@ -2,7 +2,7 @@ ghost use Rattle.std.specs.Prelude.{◌≡◌, IfNone, IfOk, IfSome};
 ghost use Rattle.first_conditions.specs.Conditions.{MeetsConditions, variable_keys};
 
 use crate::fit::{is_fit_body, is_fit_spec};
-use crate::known::{declared, knows_block, lists_items};
+use crate::known::{declared, knows_lines, lists_items};
 use crate::names::KeyTable;
 use first_path::Source;
 use spark_base::NoMemory;
@@ -26,7 +26,7 @@ pub fn conditions(alloc: Global, source: &Source) -> Result<Option<KeyTable>, No
     if !lists_items(alloc, &table, &source.spec.procedure.global)? {
         return Ok(None);
     }
-    if !knows_block(alloc, &table, &source.body.procedure.block)? {
+    if !knows_lines(alloc, &table, source.body.procedure.lines.as_slice())? {
         return Ok(None);
     }
     Ok(Some(table))

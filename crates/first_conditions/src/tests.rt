@@ -39,6 +39,19 @@ fn answer_of(alloc: Global, text: &[u8]) -> Result<Answer, NoMemory> {
     }
 }
 
+/// The counter, with its assignment in a number of ifs, one in another.
+fn in_ifs(alloc: Global, number: usize) -> Result<String, AllocError> {
+    let mut text = String::new(alloc);
+    for _ in 0..number {
+        text.push_str("if Step > 0 then ")?;
+    }
+    text.push_str("Count := Count + Step;")?;
+    for _ in 0..number {
+        text.push_str(" end if;")?;
+    }
+    COUNTER.replace(alloc, "Count := Count + Step;", text.as_str())
+}
+
 /// The counter, with a number of operators in its sum.
 fn with_operators(alloc: Global, number: usize) -> Result<String, AllocError> {
     let mut sum = String::new(alloc);
@@ -89,9 +102,73 @@ fn changes_of_the_counter(rt: HostRuntime) -> Result<(), Fail> {
         ("1;", "16#F#;", Answer::Unspelled),
         ("1;", "1E1;", Answer::Unspelled),
         ("1;", "-1;", Answer::Unspelled),
-        // A block has a statement.
+        // A list has a statement.
         ("Count := Count + Step;", "null;", first),
         ("Count := Count + Step;", "", Answer::Unspelled),
+        // An if has a test of one relation, and ends by its own words.
+        ("Count :=", "if Step > 0 then null; end if; Count :=", first),
+        (
+            "Count :=",
+            "if Step > 0 then null; else null; end if; Count :=",
+            first,
+        ),
+        (
+            "Count :=",
+            "if 1 + 1 /= Step - 1 then null; end if; Count :=",
+            first,
+        ),
+        (
+            "Count :=",
+            "if Step > Other then null; end if; Count :=",
+            Answer::Unmet,
+        ),
+        (
+            "Count :=",
+            "if Other > Step then null; end if; Count :=",
+            Answer::Unmet,
+        ),
+        (
+            "Count :=",
+            "if Step > 0 then Other := 1; end if; Count :=",
+            Answer::Unmet,
+        ),
+        (
+            "Count :=",
+            "if Step then null; end if; Count :=",
+            Answer::Unspelled,
+        ),
+        (
+            "Count :=",
+            "if Step > 0 > 1 then null; end if; Count :=",
+            Answer::Unspelled,
+        ),
+        (
+            "Count :=",
+            "if Step > 0 then end if; Count :=",
+            Answer::Unspelled,
+        ),
+        (
+            "Count :=",
+            "if Step > 0 then null; else end if; Count :=",
+            Answer::Unspelled,
+        ),
+        (
+            "Count :=",
+            "if Step > 0 then null; end; Count :=",
+            Answer::Unspelled,
+        ),
+        (
+            "Count :=",
+            "if Step > 0 then null; Count :=",
+            Answer::Unspelled,
+        ),
+        ("Count :=", "else null; end if; Count :=", Answer::Unspelled),
+        ("Count :=", "null; end if; Count :=", Answer::Unspelled),
+        (
+            "Count :=",
+            "if Step > 0 then null; else null; else null; end if; Count :=",
+            Answer::Unspelled,
+        ),
         ("+ Step", "* Step", Answer::Unspelled),
         ("+ Step", "+ ~Step", Answer::Unspelled),
     ];
@@ -100,6 +177,41 @@ fn changes_of_the_counter(rt: HostRuntime) -> Result<(), Fail> {
         let found = answer_of(alloc, text.as_bytes())?;
         assert_eq!(rt; found, wanted, "with {new}");
     }
+    Ok(())
+}
+
+/// The counter, with an if whose test has a number of operators, the relation among them.
+fn with_test(alloc: Global, number: usize) -> Result<String, AllocError> {
+    let mut text = String::new(alloc);
+    text.push_str("if 1")?;
+    for _ in 0..number / 2 {
+        text.push_str(" + 1")?;
+    }
+    text.push_str(" = Step")?;
+    for _ in number / 2 + 1..number {
+        text.push_str(" - 1")?;
+    }
+    text.push_str(" then null; end if; Count :=")?;
+    COUNTER.replace(alloc, "Count :=", text.as_str())
+}
+
+#[test]
+fn a_test_has_a_limit(rt: HostRuntime) -> Result<(), Fail> {
+    let alloc = rt.alloc();
+    let longest = with_test(alloc, 1024)?;
+    assert_eq!(rt; answer_of(alloc, longest.as_bytes())?, Answer::Met(Some(0)));
+    let longer = with_test(alloc, 1025)?;
+    assert_eq!(rt; answer_of(alloc, longer.as_bytes())?, Answer::Unmet);
+    Ok(())
+}
+
+#[test]
+fn open_ifs_have_a_limit(rt: HostRuntime) -> Result<(), Fail> {
+    let alloc = rt.alloc();
+    let deepest = in_ifs(alloc, 128)?;
+    assert_eq!(rt; answer_of(alloc, deepest.as_bytes())?, Answer::Met(Some(0)));
+    let deeper = in_ifs(alloc, 129)?;
+    assert_eq!(rt; answer_of(alloc, deeper.as_bytes())?, Answer::Unspelled);
     Ok(())
 }
 

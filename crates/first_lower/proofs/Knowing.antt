@@ -1,16 +1,16 @@
--- By the conditions, the names of statements and of entries are known.
+-- By the conditions, the names of lines and of entries are known.
 use Rattle.std.proofs.Common.{◌≡◌, ℕ, List, [], ◌∷◌, ◌++◌, All, sym, subst}
 use Rattle.std.specs.List.{flat_map}
 use Rattle.std.proofs.lemmas.List.Elements.{All-nil, All-cons, All-head, All-tail}
-use Rattle.first_conditions.specs.Conditions.{MeetsConditions, variable_keys, entries_of, statements_of, words_of, primary_words, sum_words, statement_words}
+use Rattle.first_conditions.specs.Conditions.{MeetsConditions, variable_keys, entries_of, words_of, primary_words, sum_words, line_words}
 use Rattle.first_path.specs.declared.source.Entry.{Entry}
+use Rattle.first_path.specs.declared.source.Line.{Line}
+use Rattle.first_path.specs.declared.source.Line.TheVariants as line
 use Rattle.first_path.specs.declared.source.Primary.{Primary}
 use Rattle.first_path.specs.declared.source.Primary.TheVariants as primary
 use Rattle.first_path.specs.declared.source.Source.{Source}
-use Rattle.first_path.specs.declared.source.Statement.{Statement}
-use Rattle.first_path.specs.declared.source.Statement.TheVariants as statement
 use Rattle.first_path.specs.declared.source.Sum.{Sum}
-use Rattle.first_lower.specs.Known.{Each, KnownWord, KnownPrimary, KnownTerm, KnownSum, KnownStatement, KnownEntry}
+use Rattle.first_lower.specs.Known.{Each, KnownWord, KnownPrimary, KnownTerm, KnownSum, KnownLine, KnownEntry}
 
 module _ {X : Type 0} (P : X → Type 0) where
   All-front : (xs ys : List X) → All P (xs ++ ys) → All P xs
@@ -42,21 +42,27 @@ module _ (keys : List (List ℕ)) where
         (All-back (KnownWord keys) (primary_words s.first) (flat_map (λ t. primary_words t.operand) s.more) h),
   )
 
-  known_statement : (s : Statement) → All (KnownWord keys) (statement_words s) → KnownStatement keys s
-  known_statement statement.Null h = tt
-  known_statement (statement.Assign target value) h =
+  known_line : (l : Line) → All (KnownWord keys) (line_words l) → KnownLine keys l
+  known_line line.Null h = tt
+  known_line (line.Assign target value) h =
       (All-head (KnownWord keys) target (sum_words value) h, known_sum value (All-tail (KnownWord keys) target (sum_words value) h))
+  known_line (line.If test) h = (
+    known_sum test.left (All-front (KnownWord keys) (sum_words test.left) (sum_words test.right) h),
+    known_sum test.right (All-back (KnownWord keys) (sum_words test.left) (sum_words test.right) h),
+  )
+  known_line line.Else h = tt
+  known_line line.EndIf h = tt
 
-  known_statements : (ss : List Statement) → All (KnownWord keys) (flat_map statement_words ss) → Each (KnownStatement keys) ss
-  known_statements = each_part (KnownWord keys) statement_words (KnownStatement keys) known_statement
+  known_lines : (ls : List Line) → All (KnownWord keys) (flat_map line_words ls) → Each (KnownLine keys) ls
+  known_lines = each_part (KnownWord keys) line_words (KnownLine keys) known_line
 
   known_entries : (es : List Entry) → All (KnownWord keys) (flat_map (λ e. words_of e.names) es) → Each (KnownEntry keys) es
   known_entries = each_part (KnownWord keys) (λ e. words_of e.names) (KnownEntry keys) (λ e k. each_of (KnownWord keys) (words_of e.names) k)
 
 module _ (s : Source) (keys : List (List ℕ)) (meets : MeetsConditions s) (table : keys ≡ variable_keys s.spec.variables) where
-  pub body_known : Each (KnownStatement keys) (statements_of s.body.procedure.block)
-  body_known = subst (λ (k : List (List ℕ)). Each (KnownStatement k) (statements_of s.body.procedure.block)) (sym table)
-      (known_statements (variable_keys s.spec.variables) (statements_of s.body.procedure.block) meets.names)
+  pub body_known : Each (KnownLine keys) s.body.procedure.lines
+  body_known = subst (λ (k : List (List ℕ)). Each (KnownLine k) s.body.procedure.lines) (sym table)
+      (known_lines (variable_keys s.spec.variables) s.body.procedure.lines meets.names)
 
   pub global_known : Each (KnownEntry keys) (entries_of s.spec.procedure.global)
   global_known = subst (λ (k : List (List ℕ)). Each (KnownEntry k) (entries_of s.spec.procedure.global)) (sym table)

@@ -1,6 +1,8 @@
 pub mod Adding
 pub mod Found
 pub mod Knowing
+pub mod Levels
+pub mod Lines
 pub mod Listing
 pub mod Lowering
 pub mod Proper

@@ -10,15 +10,15 @@ use Rattle.core_form.specs.declared.program.BodyKind.TheVariants as kinds
 use Rattle.core_form.specs.declared.program.Leaf.{Leaf}
 use Rattle.core_form.specs.declared.program.Program.{Program}
 use Rattle.core_form.specs.declared.program.Var.{Var}
-use Rattle.first_conditions.specs.Conditions.{statements_of}
 use Rattle.first_path.specs.declared.source.Source.{Source}
 use Rattle.first_lower.specs.Assembled.{HasRoots, IsAssembled}
-use Rattle.first_lower.specs.Known.{Each, KnownStatement}
+use Rattle.first_lower.specs.Known.{Each, KnownLine}
 use Rattle.first_lower.specs.Lowered.{low_leaf, low_var}
 use Rattle.first_lower.specs.declared.program.Roots.{Roots}
 use Rattle.first_lower.proofs.Entries.{All-slice_get, entry_here, entry_of}
-use Rattle.first_lower.proofs.Seen.{statements_proper, variables_proper}
-use Rattle.first_lower.proofs.WellFormed.{home_is, three_bodies}
+use Rattle.first_lower.proofs.Seen.{statements_known, statements_proper, variables_proper}
+use Rattle.first_lower.proofs.WellFormed.{home_is, procedure_code, three_bodies}
+use Rattle.first_path.specs.Nested.{AreNested}
 
 cells_through : (p : Program) (leaf : ℕ) (l : Leaf) → slice_get p.leaves leaf ≡ Some l → cells_of p leaf ≡ l.cells
 cells_through p leaf l is = rw (is, cells_of)
@@ -43,16 +43,16 @@ module _ (s : Source) (keys : List (List ℕ)) (nodes : Nodes) (r : Roots) (p : 
   no_formals : All (λ (body : Body). body.formals ≡ []) p.bodies
   no_formals = three_bodies s keys nodes r p a roots same (λ (body : Body). body.formals ≡ []) refl refl refl
 
-  proper_code : Each (KnownStatement keys) (statements_of s.body.procedure.block)
+  proper_code : AreNested s.body.procedure.lines → Each (KnownLine keys) s.body.procedure.lines
       → All (λ (body : Body). IsProperCode (cells_of p) (λ leaf. MayClear body.kind (home_of p leaf)) (code_of p.exprs p.stmts body.code)) p.bodies
-  proper_code known = three_bodies s keys nodes r p a roots same (λ (body : Body). IsProperCode (cells_of p) (λ leaf. MayClear body.kind (home_of p leaf)) (code_of p.exprs p.stmts body.code))
+  proper_code nested known = three_bodies s keys nodes r p a roots same (λ (body : Body). IsProperCode (cells_of p) (λ leaf. MayClear body.kind (home_of p leaf)) (code_of p.exprs p.stmts body.code))
       (rw (a.exprs, a.stmts, roots.spec_code) (variables_proper keys (cells_of p) scalar (λ leaf. MayClear kinds.Elaboration (home_of p leaf)) fresh 0 s.spec.variables (omega arith)))
       (rw (a.exprs, a.stmts, roots.body_code) tt)
-      (rw (a.exprs, a.stmts, roots.procedure_code) (statements_proper keys (cells_of p) scalar (λ leaf. MayClear kinds.Procedure (home_of p leaf)) (statements_of s.body.procedure.block) known))
+      (rw (a.exprs, a.stmts, procedure_code s keys nodes r p a roots same nested) (statements_proper keys (cells_of p) scalar (λ leaf. MayClear kinds.Procedure (home_of p leaf)) nested.statements (statements_known keys nested.statements s.body.procedure.lines nested.written known)))
 
-  pub proper : Each (KnownStatement keys) (statements_of s.body.procedure.block) → IsProper p
-  proper known = record {
+  pub proper : AreNested s.body.procedure.lines → Each (KnownLine keys) s.body.procedure.lines → IsProper p
+  proper nested known = record {
     leaves = leaves_agree;
     roots = λ b body is k. All-slice_get (λ (x : Body). x.formals ≡ []) p.bodies b body no_formals is;
-    code = λ b body is. All-slice_get (λ (x : Body). IsProperCode (cells_of p) (λ leaf. MayClear x.kind (home_of p leaf)) (code_of p.exprs p.stmts x.code)) p.bodies b body (proper_code known) is;
+    code = λ b body is. All-slice_get (λ (x : Body). IsProperCode (cells_of p) (λ leaf. MayClear x.kind (home_of p leaf)) (code_of p.exprs p.stmts x.code)) p.bodies b body (proper_code nested known) is;
   }

@@ -20,17 +20,20 @@ use Rattle.core_form.specs.declared.program.Object.{Object}
 use Rattle.core_form.specs.declared.program.Program.{Program}
 use Rattle.core_form.specs.declared.program.TaskUnit.{TaskUnit}
 use Rattle.core_form.specs.declared.program.Var.{Var}
-use Rattle.first_conditions.specs.Conditions.{entries_of, statements_of, words_of}
+use Rattle.first_conditions.specs.Conditions.{entries_of, words_of}
 use Rattle.first_path.specs.declared.source.Entry.{Entry}
 use Rattle.first_path.specs.declared.source.Source.{Source}
 use Rattle.first_path.specs.declared.source.Variable.{Variable}
 use Rattle.first_path.specs.declared.source.Word.{Word}
 use Rattle.first_lower.specs.Assembled.{HasRoots, IsAssembled, bodies_of}
-use Rattle.first_lower.specs.Known.{Each, KnownWord, KnownEntry, KnownStatement}
-use Rattle.first_lower.specs.Lowered.{each_from, elaboration, low_entry, low_global_item, low_item, low_leaf, low_package, low_procedure, low_var, mode_of}
+use Rattle.first_lower.specs.Known.{Each, KnownWord, KnownEntry, KnownLine}
+use Rattle.first_lower.specs.Levels.{ends}
+use Rattle.first_lower.specs.Lowered.{each_from, elaboration, low_entry, low_global_item, low_item, low_leaf, low_package, low_procedure, low_statements, low_var, mode_of}
 use Rattle.first_lower.specs.declared.program.Roots.{Roots}
 use Rattle.first_lower.proofs.Entries.{All-slice_get, all_entries, length_entries, entry_here}
-use Rattle.first_lower.proofs.Seen.{leaf_below, statements_in, variables_in}
+use Rattle.first_lower.proofs.Lines.{ends_code}
+use Rattle.first_lower.proofs.Seen.{leaf_below, statements_in, statements_known, variables_in}
+use Rattle.first_path.specs.Nested.{AreNested}
 
 all_none : {X : Type 0} (P : X → Type 0) (xs : List X) → xs ≡ [] → All P xs
 all_none P xs e = All-same P xs [] e (All-nil P)
@@ -143,20 +146,24 @@ module _ (s : Source) (keys : List (List ℕ)) (nodes : Nodes) (r : Roots) (p : 
   seen : (b leaf : ℕ) → leaf < length keys → IsSeenIn p b leaf
   seen b leaf l = rw (home_is leaf l) tt
 
-  names : Each (KnownStatement keys) (statements_of s.body.procedure.block) → (b : ℕ) → All (λ (body : Body). CodeIn (IsSeenIn p b) (code_of p.exprs p.stmts body.code)) p.bodies
-  names known b = three_bodies (λ (body : Body). CodeIn (IsSeenIn p b) (code_of p.exprs p.stmts body.code))
+  -- the code of the procedure is that of its list of statements
+  pub procedure_code : (nested : AreNested s.body.procedure.lines) → code_of nodes.exprs nodes.stmts r.procedure ≡ low_statements keys nested.statements
+  procedure_code nested = roots.procedure_code ∙ ap (ends keys [] []) nested.written ∙ ends_code keys nested.statements
+
+  names : AreNested s.body.procedure.lines → Each (KnownLine keys) s.body.procedure.lines → (b : ℕ) → All (λ (body : Body). CodeIn (IsSeenIn p b) (code_of p.exprs p.stmts body.code)) p.bodies
+  names nested known b = three_bodies (λ (body : Body). CodeIn (IsSeenIn p b) (code_of p.exprs p.stmts body.code))
       (rw (a.exprs, a.stmts, roots.spec_code) (variables_in keys (IsSeenIn p b) (seen b) 0 s.spec.variables (omega arith)))
       (rw (a.exprs, a.stmts, roots.body_code) tt)
-      (rw (a.exprs, a.stmts, roots.procedure_code) (statements_in keys (IsSeenIn p b) (seen b) (statements_of s.body.procedure.block) known))
+      (rw (a.exprs, a.stmts, procedure_code nested) (statements_in keys (IsSeenIn p b) (seen b) nested.statements (statements_known keys nested.statements s.body.procedure.lines nested.written known)))
 
   fine_nodes : AreFineNodes nodes → nodes.leaves ≡ length keys → HasFineNodes p
   fine_nodes fine leaves =
       let e : length p.leaves ≡ nodes.leaves = length_leaves ∙ sym leaves in
       record { room = rw (e, a.exprs, a.stmts) fine.room; exprs = rw (e, a.exprs) fine.exprs; stmts = rw (e, a.exprs, a.stmts) fine.stmts }
 
-  pub well_formed : AreFineNodes nodes → nodes.leaves ≡ length keys → Each (KnownStatement keys) (statements_of s.body.procedure.block)
+  pub well_formed : AreFineNodes nodes → nodes.leaves ≡ length keys → AreNested s.body.procedure.lines → Each (KnownLine keys) s.body.procedure.lines
       → Each (KnownEntry keys) (entries_of s.spec.procedure.global) → IsWellFormed p
-  well_formed fine leaves statements entries = record {
+  well_formed fine leaves nested lines entries = record {
     nodes = fine_nodes fine leaves;
     leaves = fine_leaves;
     vars = fine_vars;
@@ -170,5 +177,5 @@ module _ (s : Source) (keys : List (List ℕ)) (nodes : Nodes) (r : Roots) (p : 
     main = rw a.main tt;
     part_of = all_none (IsFinePartOf p) p.part_of a.part_of;
     constituents = all_none (IsFineConstituent p) p.constituents a.constituents;
-    names = λ b body is. All-slice_get (λ (x : Body). CodeIn (IsSeenIn p b) (code_of p.exprs p.stmts x.code)) p.bodies b body (names statements b) is;
+    names = λ b body is. All-slice_get (λ (x : Body). CodeIn (IsSeenIn p b) (code_of p.exprs p.stmts x.code)) p.bodies b body (names nested lines b) is;
   }

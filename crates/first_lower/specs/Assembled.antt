@@ -4,10 +4,10 @@ use Rattle.core_form.specs.Code.{Skip, code_of}
 use Rattle.core_form.specs.declared.build.Nodes.{Nodes}
 use Rattle.core_form.specs.declared.program.Body.{Body}
 use Rattle.core_form.specs.declared.program.Program.{Program}
-use Rattle.first_conditions.specs.Conditions.{statements_of}
 use Rattle.first_path.specs.declared.source.Source.{Source}
 use Rattle.first_lower.specs.declared.program.Roots.{Roots}
-use Rattle.first_lower.specs.Lowered.{low_variables, low_statements, low_leaf, low_var, low_item, low_package, low_procedure, elaboration, each_from, assignments_of}
+use Rattle.first_lower.specs.Levels.{ends}
+use Rattle.first_lower.specs.Lowered.{low_variables, low_leaf, low_var, low_item, low_package, low_procedure, elaboration, each_from, assignments_of}
 
 -- the nodes have the codes of the bodies
 pub record HasRoots (s : Source) (keys : List (List ℕ)) (nodes : Nodes) (r : Roots) : Type 0 where
@@ -16,7 +16,7 @@ pub record HasRoots (s : Source) (keys : List (List ℕ)) (nodes : Nodes) (r : R
   pub procedure_within : r.procedure.0 < length nodes.stmts
   pub spec_code : code_of nodes.exprs nodes.stmts r.spec ≡ low_variables 0 s.spec.variables
   pub body_code : code_of nodes.exprs nodes.stmts r.body ≡ Skip
-  pub procedure_code : code_of nodes.exprs nodes.stmts r.procedure ≡ low_statements keys (statements_of s.body.procedure.block)
+  pub procedure_code : code_of nodes.exprs nodes.stmts r.procedure ≡ ends keys [] [] s.body.procedure.lines
 
 abbrev pub bodies_of : Source → List (List ℕ) → Roots → List Body
 bodies_of s keys r =
@@ -37,6 +37,6 @@ pub record IsAssembled (s : Source) (keys : List (List ℕ)) (nodes : Nodes) (r 
   pub main : p.main ≡ None
   pub part_of : p.part_of ≡ []
   pub constituents : p.constituents ≡ []
-  pub assignments : p.assignments ≡ assignments_of (statements_of s.body.procedure.block)
+  pub assignments : p.assignments ≡ assignments_of s.body.procedure.lines
   pub exprs : p.exprs ≡ nodes.exprs
   pub stmts : p.stmts ≡ nodes.stmts

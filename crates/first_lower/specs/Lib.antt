@@ -1,4 +1,5 @@
 pub mod Assembled
 pub mod Known
+pub mod Levels
 pub mod Lowered
 pub mod Steps

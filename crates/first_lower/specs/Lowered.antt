@@ -4,7 +4,8 @@ use Rattle.std.specs.List.{flat_map}
 use Rattle.std.specs.Str.{bytes_eq}
 use Rattle.spark_base.specs.declared.numbers.Span.{Span}
 use Rattle.spark_base.specs.declared.numbers.StmtNo.{StmtNo}
-use Rattle.core_form.specs.Code.{Expr, Spot, Code, Constant, Load, Operation, Checked, Nothing, And, At, Skip, Then, Assign, Clear, code_of}
+use Rattle.core_form.specs.Code.{Expr, Spot, Code, Constant, Load, Operation, Checked, Nothing, And, At, Skip, Then, Clear, Branch, code_of}
+use Rattle.core_form.specs.Code as core
 use Rattle.core_form.specs.declared.code.CoreOp.{CoreOp}
 use Rattle.core_form.specs.declared.code.CoreOp.TheVariants as op
 use Rattle.core_form.specs.declared.contract.Contract.{Contract}
@@ -22,18 +23,22 @@ use Rattle.core_form.specs.declared.program.Part.TheVariants as part
 use Rattle.core_form.specs.declared.program.Program.{Program}
 use Rattle.core_form.specs.declared.program.Sharing.TheVariants as sharing
 use Rattle.core_form.specs.declared.program.Var.{Var}
-use Rattle.first_conditions.specs.Conditions.{key, variable_keys, statements_of, entries_of, words_of, mode_named}
+use Rattle.first_conditions.specs.Conditions.{key, variable_keys, entries_of, words_of, mode_named}
+use Rattle.first_path.specs.Nested.{Statements, Last, More, Statement, Null, Assign, If, IfElse, statements_then}
 use Rattle.first_path.specs.declared.source.Adding.{Adding}
 use Rattle.first_path.specs.declared.source.Adding.TheVariants as adding
 use Rattle.first_path.specs.declared.source.Entry.{Entry}
 use Rattle.first_path.specs.declared.source.GlobalForm.{GlobalForm}
+use Rattle.first_path.specs.declared.source.Line.{Line}
+use Rattle.first_path.specs.declared.source.Line.TheVariants as line
 use Rattle.first_path.specs.declared.source.Primary.{Primary}
 use Rattle.first_path.specs.declared.source.Primary.TheVariants as primary
+use Rattle.first_path.specs.declared.source.Relation.{Relation}
+use Rattle.first_path.specs.declared.source.Relation.TheVariants as relation
 use Rattle.first_path.specs.declared.source.Source.{Source}
-use Rattle.first_path.specs.declared.source.Statement.{Statement}
-use Rattle.first_path.specs.declared.source.Statement.TheVariants as statement
 use Rattle.first_path.specs.declared.source.Sum.{Sum}
 use Rattle.first_path.specs.declared.source.Term.{Term}
+use Rattle.first_path.specs.declared.source.Test.{Test}
 use Rattle.first_path.specs.declared.source.Variable.{Variable}
 use Rattle.first_path.specs.declared.source.Word.{Word}
 
@@ -70,19 +75,49 @@ low_terms keys e (t ∷ ts) = low_terms keys (low_term keys e t) ts
 abbrev pub low_sum : List (List ℕ) → Sum → Expr
 low_sum keys s = low_terms keys (low_primary keys s.first) s.more
 
--- the code of a statement, before that of those behind it; null gives none
-abbrev pub low_statement : List (List ℕ) → Statement → Code → Code
-low_statement keys statement.Null rest = rest
-low_statement keys (statement.Assign target value) rest =
-    Then (Assign (whole (leaf_of keys target)) (checked (low_sum keys value)) target.span) rest
+abbrev pub apply : CoreOp → Expr → Expr → Expr
+apply o e f = Operation o (And e (And f Nothing))
 
-abbrev pub low_statements : List (List ℕ) → List Statement → Code
-low_statements keys [] = Skip
-low_statements keys (s ∷ ss) = low_statement keys s (low_statements keys ss)
+-- a relation of two values; greater is less, the other way round
+abbrev pub low_relation : Relation → Expr → Expr → Expr
+low_relation relation.Equal e f = apply op.Eq e f
+low_relation relation.NotEqual e f = Operation op.Not (And (apply op.Eq e f) Nothing)
+low_relation relation.Less e f = apply op.Lt e f
+low_relation relation.AtMost e f = apply op.Le e f
+low_relation relation.Greater e f = apply op.Lt f e
+low_relation relation.AtLeast e f = apply op.Le f e
+
+abbrev pub low_test : List (List ℕ) → Test → Expr
+low_test keys t = low_relation t.relation (low_sum keys t.left) (low_sum keys t.right)
+
+abbrev pub low_assignment : List (List ℕ) → Word → Sum → Code
+low_assignment keys target value = core.Assign (whole (leaf_of keys target)) (checked (low_sum keys value)) target.span
+
+-- codes one after another
+abbrev pub chain : List Code → Code
+chain [] = Skip
+chain (c ∷ cs) = Then c (chain cs)
+
+abbrev mutual
+  -- the codes of a list of statements, one after another; null gives none
+  pub low_codes : List (List ℕ) → Statements → List Code
+  low_codes keys (Last s) = low_statement keys s
+  low_codes keys (More s ss) = low_statement keys s ++ low_codes keys ss
+
+  pub low_statement : List (List ℕ) → Statement → List Code
+  low_statement keys Null = []
+  low_statement keys (Assign target value) = low_assignment keys target value ∷ []
+  low_statement keys (If test main) = Branch (low_test keys test) (chain (low_codes keys main)) Skip ∷ []
+  low_statement keys (IfElse test main other) =
+      Branch (low_test keys test) (chain (low_codes keys main)) (chain (low_codes keys other)) ∷ []
+
+-- a list of statements is one sequence, and so is each side of an if that has statements
+abbrev pub low_statements : List (List ℕ) → Statements → Code
+low_statements keys ss = chain (low_codes keys ss)
 
 -- a declaration makes its leaf fresh, and moves the initial value to it
 abbrev pub low_variable : ℕ → Variable → Code → Code
-low_variable leaf v rest = Then (Clear leaf) (Then (Assign (whole leaf) (checked (Constant (pos v.value))) v.name.span) rest)
+low_variable leaf v rest = Then (Clear leaf) (Then (core.Assign (whole leaf) (checked (Constant (pos v.value))) v.name.span) rest)
 
 abbrev pub low_variables : ℕ → List Variable → Code
 low_variables leaf [] = Skip
@@ -172,10 +207,13 @@ low_procedure keys s code = record {
   in_spec = false;
 }
 
-abbrev pub assignments_of : List Statement → List Span
+abbrev pub assignments_of : List Line → List Span
 assignments_of [] = []
-assignments_of (statement.Null ∷ ss) = assignments_of ss
-assignments_of (statement.Assign target value ∷ ss) = target.span ∷ assignments_of ss
+assignments_of (line.Null ∷ ls) = assignments_of ls
+assignments_of (line.Assign target value ∷ ls) = target.span ∷ assignments_of ls
+assignments_of (line.If test ∷ ls) = assignments_of ls
+assignments_of (line.Else ∷ ls) = assignments_of ls
+assignments_of (line.EndIf ∷ ls) = assignments_of ls
 
 -- The program
 
@@ -192,7 +230,7 @@ pub record IsLowered (s : Source) (p : Program) : Type 0 where
   pub main : p.main ≡ None
   pub part_of : p.part_of ≡ []
   pub constituents : p.constituents ≡ []
-  pub assignments : p.assignments ≡ assignments_of (statements_of s.body.procedure.block)
+  pub assignments : p.assignments ≡ assignments_of s.body.procedure.lines
   pub first : StmtNo
   pub second : StmtNo
   pub third : StmtNo
@@ -201,4 +239,6 @@ pub record IsLowered (s : Source) (p : Program) : Type 0 where
       ∷ low_procedure (variable_keys s.spec.variables) s third ∷ []
   pub spec_code : code_of p.exprs p.stmts first ≡ low_variables 0 s.spec.variables
   pub body_code : code_of p.exprs p.stmts second ≡ Skip
-  pub procedure_code : code_of p.exprs p.stmts third ≡ low_statements (variable_keys s.spec.variables) (statements_of s.body.procedure.block)
+  pub statements : Statements
+  pub written : s.body.procedure.lines ≡ statements_then statements []
+  pub procedure_code : code_of p.exprs p.stmts third ≡ low_statements (variable_keys s.spec.variables) statements

@@ -1,14 +1,15 @@
 ghost use Rattle.std.specs.Prelude.{◌≡◌, ◌∷◌, ◌+◌, ◌<◌, ◌^◌, [], true, Some, All, IfOk, OnOk, position, length, slice_get};
 ghost use Rattle.std.specs.Str.{bytes_eq};
 ghost use Rattle.core_form.specs.Added.{AreFineNodes, KeepsTrees};
-ghost use Rattle.core_form.specs.Code.{Load, expr_of};
-ghost use Rattle.first_lower.specs.Known.{KnownWord, KnownPrimary, KnownTerm, KnownSum};
-ghost use Rattle.first_lower.specs.Lowered.{leaf_of, whole, checked, operator_of, low_primary, low_term, low_terms, low_sum};
+ghost use Rattle.core_form.specs.Code.{And, Load, Nothing, Operation, expr_of};
+ghost use Rattle.core_form.specs.declared.code.CoreOp.TheVariants as op;
+ghost use Rattle.first_lower.specs.Known.{KnownWord, KnownPrimary, KnownTerm, KnownSum, KnownTest};
+ghost use Rattle.first_lower.specs.Lowered.{leaf_of, whole, checked, operator_of, low_primary, low_term, low_terms, low_sum, apply, low_relation, low_test};
 ghost use Rattle.first_lower.specs.Steps.{Adds, IsWhole};
 
 use core_form::{CoreExpr, CoreOp, Nodes, Place};
 use first_conditions::{KeyTable, key_of};
-use first_path::{Adding, Primary, Sum, Term, Word};
+use first_path::{Adding, Primary, Relation, Sum, Term, Test, Word};
 use spark_base::{ExprNo, Items, LeafNo, NoMemory};
 use std::alloc::Global;
 
@@ -95,6 +96,69 @@ fn operator_of(operator: Adding) -> CoreOp
     }
 }
 
+/// Adds an operation of two values.
+fn add_application(
+    alloc: Global,
+    nodes: &mut Nodes,
+    op: CoreOp,
+    first: ExprNo,
+    second: ExprNo,
+) -> Result<ExprNo, NoMemory>
+    requires fine { AreFineNodes nodes.old }
+    requires first { first.0 < length nodes.old.exprs }
+    requires second { second.0 < length nodes.old.exprs }
+    ensures adds { Adds nodes.old nodes.new }
+    ensures within { IfOk result (λ e. e.0 < length nodes.new.exprs) }
+    ensures tree { IfOk result (λ e. expr_of nodes.new.exprs e ≡ apply op (expr_of nodes.old.exprs first) (expr_of nodes.old.exprs second)) }
+{
+    let args = pair(alloc, first, second)?;
+    nodes.add_expr(CoreExpr::Apply { op, args })
+}
+
+/// Adds the negation of a truth value.
+fn add_negation(alloc: Global, nodes: &mut Nodes, value: ExprNo) -> Result<ExprNo, NoMemory>
+    requires fine { AreFineNodes nodes.old }
+    requires value { value.0 < length nodes.old.exprs }
+    ensures adds { Adds nodes.old nodes.new }
+    ensures within { IfOk result (λ e. e.0 < length nodes.new.exprs) }
+    ensures tree { IfOk result (λ e. expr_of nodes.new.exprs e ≡ Operation op.Not (And (expr_of nodes.old.exprs value) Nothing)) }
+{
+    let mut args = Items::new(alloc);
+    args.push(value)?;
+    nodes.add_expr(CoreExpr::Apply {
+        op: CoreOp::Not,
+        args,
+    })
+}
+
+/// Adds a relation of two values.
+fn add_relation(
+    alloc: Global,
+    nodes: &mut Nodes,
+    relation: Relation,
+    left: ExprNo,
+    right: ExprNo,
+) -> Result<ExprNo, NoMemory>
+    requires fine { AreFineNodes nodes.old }
+    requires left { left.0 < length nodes.old.exprs }
+    requires right { right.0 < length nodes.old.exprs }
+    ensures adds { OnOk result (Adds nodes.old nodes.new) }
+    ensures within { IfOk result (λ e. e.0 < length nodes.new.exprs) }
+    ensures tree { IfOk result (λ e. expr_of nodes.new.exprs e ≡ low_relation relation (expr_of nodes.old.exprs left) (expr_of nodes.old.exprs right)) }
+{
+    match relation {
+        Relation::Equal => add_application(alloc, nodes, CoreOp::Eq, left, right),
+        Relation::NotEqual => {
+            let equal = add_application(alloc, nodes, CoreOp::Eq, left, right)?;
+            add_negation(alloc, nodes, equal)
+        }
+        Relation::Less => add_application(alloc, nodes, CoreOp::Lt, left, right),
+        Relation::AtMost => add_application(alloc, nodes, CoreOp::Le, left, right),
+        Relation::Greater => add_application(alloc, nodes, CoreOp::Lt, right, left),
+        Relation::AtLeast => add_application(alloc, nodes, CoreOp::Le, right, left),
+    }
+}
+
 /// Adds what a term makes of the value before it.
 fn add_term(
     alloc: Global,
@@ -112,11 +176,7 @@ fn add_term(
     ensures tree { IfOk result (λ e. expr_of nodes.new.exprs e ≡ low_term table.now (expr_of nodes.old.exprs before) term.now) }
 {
     let operand = add_primary(alloc, nodes, table, &term.operand)?;
-    let args = pair(alloc, before, operand)?;
-    nodes.add_expr(CoreExpr::Apply {
-        op: operator_of(term.operator),
-        args,
-    })
+    add_application(alloc, nodes, operator_of(term.operator), before, operand)
 }
 
 /// Adds the value of a sum.
@@ -171,4 +231,23 @@ pub fn add_checked(
 {
     let value = add_sum(alloc, nodes, table, sum)?;
     add_integer(nodes, value)
+}
+
+/// Adds the truth value of a test.
+pub fn add_test(
+    alloc: Global,
+    nodes: &mut Nodes,
+    table: &KeyTable,
+    test: &Test,
+) -> Result<ExprNo, NoMemory>
+    requires fine { AreFineNodes nodes.old }
+    requires leaves { nodes.old.leaves ≡ length table.now }
+    requires known { KnownTest table.now test.now }
+    ensures adds { OnOk result (Adds nodes.old nodes.new) }
+    ensures within { IfOk result (λ e. e.0 < length nodes.new.exprs) }
+    ensures tree { IfOk result (λ e. expr_of nodes.new.exprs e ≡ low_test table.now test.now) }
+{
+    let left = add_sum(alloc, nodes, table, &test.left)?;
+    let right = add_sum(alloc, nodes, table, &test.right)?;
+    add_relation(alloc, nodes, test.relation, left, right)
 }

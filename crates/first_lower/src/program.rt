@@ -3,18 +3,19 @@ ghost use Rattle.core_form.specs.Fine.{IsWellFormed};
 ghost use Rattle.core_form.specs.Proper.{IsProper};
 ghost use Rattle.first_conditions.specs.Conditions.{MeetsConditions, variable_keys};
 ghost use Rattle.first_lower.specs.Lowered.{IsLowered, elaboration, low_procedure, low_package, assignments_of};
-ghost use Rattle.first_conditions.specs.Conditions.{statements_of, entries_of};
+ghost use Rattle.first_conditions.specs.Conditions.{entries_of};
+ghost use Rattle.first_path.specs.Nested.{AreNested};
 ghost use Rattle.core_form.specs.Added.{AreFineNodes};
 ghost use Rattle.first_lower.specs.Assembled.{HasRoots, IsAssembled, bodies_of};
-ghost use Rattle.first_lower.specs.Known.{Each, KnownEntry, KnownStatement};
+ghost use Rattle.first_lower.specs.Known.{Each, KnownEntry, KnownLine};
 ghost use Rattle.first_lower.specs.Steps.{Adds};
 
-use crate::code::{add_block, add_sequence, add_variables};
+use crate::code::{add_lines, add_sequence, add_variables};
 use crate::contract::contract;
 use crate::tables::{dotted, items, leaves, vars};
 use core_form::{Body, BodyKind, Nodes, Package, Program, States};
 use first_conditions::KeyTable;
-use first_path::{Block, Source, Statement, Word};
+use first_path::{Line, Source, Word};
 use spark_base::{BodyNo, Bytes, Items, NoMemory, PackageNo, Span, StmtNo};
 use std::alloc::Global;
 
@@ -85,23 +86,22 @@ fn package(alloc: Global, home: &Word) -> Result<Package, NoMemory>
 }
 
 /// Adds the place of an assignment.
-fn append_place(list: &mut Items<Span>, statement: &Statement) -> Result<(), NoMemory>
-    ensures { OnOk result (list.new ≡ list.old ++ assignments_of (statement.now ∷ [])) }
+fn append_place(list: &mut Items<Span>, line: &Line) -> Result<(), NoMemory>
+    ensures { OnOk result (list.new ≡ list.old ++ assignments_of (line.now ∷ [])) }
 {
-    match statement {
-        Statement::Null => Ok(()),
-        Statement::Assign { target, .. } => list.push(target.span),
+    match line {
+        Line::Assign { target, .. } => list.push(target.span),
+        Line::Null | Line::If(_) | Line::Else | Line::EndIf => Ok(()),
     }
 }
 
 /// The places of the assignments.
-fn assignments(alloc: Global, block: &Block) -> Result<Items<Span>, NoMemory>
-    ensures { IfOk result (λ l. l ≡ assignments_of (statements_of block.now)) }
+fn assignments(alloc: Global, lines: &[Line]) -> Result<Items<Span>, NoMemory>
+    ensures { IfOk result (λ l. l ≡ assignments_of lines.now) }
 {
     let mut list = Items::new(alloc);
-    append_place(&mut list, &block.first)?;
-    for statement in block.more.as_slice() {
-        append_place(&mut list, statement)?;
+    for line in lines {
+        append_place(&mut list, line)?;
     }
     Ok(list)
 }
@@ -143,13 +143,13 @@ fn add_code(
     requires fine { AreFineNodes nodes.old }
     requires leaves { nodes.old.leaves ≡ length source.now.spec.variables }
     requires table { length table.now ≡ length source.now.spec.variables }
-    requires known { Each (KnownStatement table.now) (statements_of source.now.body.procedure.block) }
+    requires known { Each (KnownLine table.now) source.now.body.procedure.lines }
     ensures adds { OnOk result (Adds nodes.old nodes.new) }
     ensures roots { IfOk result (λ r. HasRoots source.now table.now nodes.new r) }
 {
     let spec = add_variables(alloc, nodes, source.spec.variables.as_slice())?;
     let body = add_sequence(nodes, Items::new(alloc))?;
-    let procedure = add_block(alloc, nodes, table, &source.body.procedure.block)?;
+    let procedure = add_lines(alloc, nodes, table, source.body.procedure.lines.as_slice())?;
     Ok(Roots {
         spec,
         body,
@@ -209,13 +209,14 @@ fn assemble(
         exprs,
         part_of: Items::new(alloc),
         constituents: Items::new(alloc),
-        assignments: assignments(alloc, &source.body.procedure.block)?,
+        assignments: assignments(alloc, source.body.procedure.lines.as_slice())?,
     })
 }
 
 /// The core program of a source. `table` has the keys of its variables. 2^32 - 1 variables or more, 2^32 expressions or
 /// statements or more, and no room for what is made are want of memory.
 pub fn lower(alloc: Global, source: &Source, table: &KeyTable) -> Result<Program, NoMemory>
+    requires nested { AreNested source.now.body.procedure.lines }
     requires conditions { MeetsConditions source.now }
     requires table { table.now ≡ variable_keys source.now.spec.variables }
     ensures lowered { IfOk result (IsLowered source.now) }

@@ -1,5 +1,5 @@
 -- With what a list of symbols begins.
-use Rattle.std.specs.Prelude.{ℕ, nat_eq, Bool, true, false, if◌then◌else◌, List, [], ◌∷◌}
+use Rattle.std.specs.Prelude.{ℕ, nat_eq, Bool, true, false, ◌&&◌, ◌||◌, if◌then◌else◌, List, [], ◌∷◌}
 use Rattle.first_path.specs.declared.reading.ReadFault.{ReadFault}
 use Rattle.first_path.specs.declared.reading.ReadFault.TheVariants as fault
 use Rattle.first_path.specs.declared.source.Sign.{Sign}
@@ -26,6 +26,15 @@ place_of signs.Becomes = 13
 place_of signs.Arrow = 14
 place_of signs.Plus = 15
 place_of signs.Minus = 16
+place_of signs.If = 17
+place_of signs.Then = 18
+place_of signs.Else = 19
+place_of signs.Equal = 20
+place_of signs.NotEqual = 21
+place_of signs.Less = 22
+place_of signs.AtMost = 23
+place_of signs.Greater = 24
+place_of signs.AtLeast = 25
 
 abbrev pub same : Sign → Sign → Bool
 same a b = nat_eq (place_of a) (place_of b)
@@ -55,9 +64,18 @@ begins_number (symbol.Other ∷ rest) = false
 abbrev pub begins_term : List Symbol → Bool
 begins_term rest = if begins signs.Plus rest then true else begins signs.Minus rest
 
--- a statement stands here
-abbrev pub begins_statement : List Symbol → Bool
-begins_statement rest = if begins signs.Null rest then true else begins_word rest
+-- the end of an if stands here, and no other end
+abbrev pub begins_end_if : List Symbol → Bool
+begins_end_if [] = false
+begins_end_if (symbol.Sign s ∷ rest) = same s signs.End && begins signs.If rest
+begins_end_if (symbol.Word w ∷ rest) = false
+begins_end_if (symbol.Number n ∷ rest) = false
+begins_end_if (symbol.Other ∷ rest) = false
+
+-- a line of a list of statements stands here
+abbrev pub begins_line : List Symbol → Bool
+begins_line rest =
+    begins_word rest || (begins signs.Null rest || (begins signs.If rest || (begins signs.Else rest || begins_end_if rest)))
 
 -- where the answer is that this is not spelled here, it is so
 abbrev pub Denies : ReadFault → Type 0 → Type 0

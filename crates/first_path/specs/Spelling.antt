@@ -2,10 +2,11 @@
 use Rattle.std.specs.Prelude.{List, [], ◌∷◌, Option, Some, None}
 use Rattle.first_path.specs.declared.source.Adding.{Adding}
 use Rattle.first_path.specs.declared.source.Adding.TheVariants as adding
-use Rattle.first_path.specs.declared.source.Block.{Block}
 use Rattle.first_path.specs.declared.source.Entry.{Entry}
 use Rattle.first_path.specs.declared.source.GlobalForm.{GlobalForm}
 use Rattle.first_path.specs.declared.source.GlobalForm.TheVariants as global
+use Rattle.first_path.specs.declared.source.Line.{Line}
+use Rattle.first_path.specs.declared.source.Line.TheVariants as line
 use Rattle.first_path.specs.declared.source.PackageBody.{PackageBody}
 use Rattle.first_path.specs.declared.source.Names.{Names}
 use Rattle.first_path.specs.declared.source.Names.TheVariants as names
@@ -13,16 +14,17 @@ use Rattle.first_path.specs.declared.source.Primary.{Primary}
 use Rattle.first_path.specs.declared.source.Primary.TheVariants as primary
 use Rattle.first_path.specs.declared.source.ProcedureBody.{ProcedureBody}
 use Rattle.first_path.specs.declared.source.ProcedureSpec.{ProcedureSpec}
+use Rattle.first_path.specs.declared.source.Relation.{Relation}
+use Rattle.first_path.specs.declared.source.Relation.TheVariants as relation
 use Rattle.first_path.specs.declared.source.Sign.{Sign}
 use Rattle.first_path.specs.declared.source.Sign.TheVariants as signs
 use Rattle.first_path.specs.declared.source.Source.{Source}
 use Rattle.first_path.specs.declared.source.Spec.{Spec}
-use Rattle.first_path.specs.declared.source.Statement.{Statement}
-use Rattle.first_path.specs.declared.source.Statement.TheVariants as statement
 use Rattle.first_path.specs.declared.source.Sum.{Sum}
 use Rattle.first_path.specs.declared.source.Symbol.{Symbol}
 use Rattle.first_path.specs.declared.source.Symbol.TheVariants as symbol
 use Rattle.first_path.specs.declared.source.Term.{Term}
+use Rattle.first_path.specs.declared.source.Test.{Test}
 use Rattle.first_path.specs.declared.source.Variable.{Variable}
 use Rattle.first_path.specs.declared.source.Word.{Word}
 
@@ -66,15 +68,27 @@ term_then t rest = sign_then (sign_of t.operator) (primary_then t.operand rest)
 abbrev pub sum_then : Sum → List Symbol → List Symbol
 sum_then s rest = primary_then s.first (each_then term_then s.more rest)
 
--- "null" ";" | id ":=" sum ";"
-abbrev pub statement_then : Statement → List Symbol → List Symbol
-statement_then statement.Null rest = sign_then signs.Null (sign_then signs.Semicolon rest)
-statement_then (statement.Assign target value) rest =
-    word_then target (sign_then signs.Becomes (sum_then value (sign_then signs.Semicolon rest)))
+-- "=" | "/=" | "<" | "<=" | ">" | ">="
+abbrev pub relation_sign : Relation → Sign
+relation_sign relation.Equal = signs.Equal
+relation_sign relation.NotEqual = signs.NotEqual
+relation_sign relation.Less = signs.Less
+relation_sign relation.AtMost = signs.AtMost
+relation_sign relation.Greater = signs.Greater
+relation_sign relation.AtLeast = signs.AtLeast
 
--- fs {fs}
-abbrev pub block_then : Block → List Symbol → List Symbol
-block_then b rest = statement_then b.first (each_then statement_then b.more rest)
+-- sum op sum
+abbrev pub test_then : Test → List Symbol → List Symbol
+test_then t rest = sum_then t.left (sign_then (relation_sign t.relation) (sum_then t.right rest))
+
+-- "null" ";" | id ":=" sum ";" | "if" test "then" | "else" | "end" "if" ";"
+abbrev pub line_then : Line → List Symbol → List Symbol
+line_then line.Null rest = sign_then signs.Null (sign_then signs.Semicolon rest)
+line_then (line.Assign target value) rest =
+    word_then target (sign_then signs.Becomes (sum_then value (sign_then signs.Semicolon rest)))
+line_then (line.If test) rest = sign_then signs.If (test_then test (sign_then signs.Then rest))
+line_then line.Else rest = sign_then signs.Else rest
+line_then line.EndIf rest = sign_then signs.End (sign_then signs.If (sign_then signs.Semicolon rest))
 
 -- "," id
 abbrev pub further_name_then : Word → List Symbol → List Symbol
@@ -116,11 +130,11 @@ spec_then s rest =
     sign_then signs.Package (word_then s.«package» (sign_then signs.Is (each_then variable_then s.variables
     (procedure_spec_then s.procedure (ended_then s.end rest)))))
 
--- "procedure" id "is" "begin" list "end" [id] ";"
+-- "procedure" id "is" "begin" {line} "end" [id] ";"; the lines are those of a list of statements
 abbrev pub procedure_body_then : ProcedureBody → List Symbol → List Symbol
 procedure_body_then p rest =
     sign_then signs.Procedure (word_then p.name (sign_then signs.Is (sign_then signs.Begin
-    (block_then p.block (ended_then p.end rest)))))
+    (each_then line_then p.lines (ended_then p.end rest)))))
 
 -- "package" "body" id "is" procedure "end" [id] ";"
 abbrev pub package_body_then : PackageBody → List Symbol → List Symbol

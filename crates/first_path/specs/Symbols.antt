@@ -16,17 +16,21 @@ use Rattle.first_path.specs.declared.source.Sign.TheVariants as signs
 use Rattle.first_path.specs.declared.source.Source.{Source}
 use Rattle.first_path.specs.declared.source.Symbol.{Symbol}
 use Rattle.first_path.specs.declared.source.Symbol.TheVariants as symbol
+use Rattle.first_path.specs.Nested.{AreNested}
 use Rattle.first_path.specs.Spelling.{spelled}
 
 -- a reserved word, which is a sign where the grammar has it
 abbrev pub reserved_symbol : Reserved → Symbol
 reserved_symbol words.Begin = symbol.Sign signs.Begin
 reserved_symbol words.Body = symbol.Sign signs.Body
+reserved_symbol words.Else = symbol.Sign signs.Else
 reserved_symbol words.End = symbol.Sign signs.End
+reserved_symbol words.If = symbol.Sign signs.If
 reserved_symbol words.Is = symbol.Sign signs.Is
 reserved_symbol words.Null = symbol.Sign signs.Null
 reserved_symbol words.Package = symbol.Sign signs.Package
 reserved_symbol words.Procedure = symbol.Sign signs.Procedure
+reserved_symbol words.Then = symbol.Sign signs.Then
 reserved_symbol words.With = symbol.Sign signs.With
 reserved_symbol word = symbol.Other
 
@@ -41,6 +45,12 @@ mark_symbol marks.Becomes = symbol.Sign signs.Becomes
 mark_symbol marks.Arrow = symbol.Sign signs.Arrow
 mark_symbol marks.Plus = symbol.Sign signs.Plus
 mark_symbol marks.Minus = symbol.Sign signs.Minus
+mark_symbol marks.Equal = symbol.Sign signs.Equal
+mark_symbol marks.NotEqual = symbol.Sign signs.NotEqual
+mark_symbol marks.Less = symbol.Sign signs.Less
+mark_symbol marks.AtMost = symbol.Sign signs.AtMost
+mark_symbol marks.Greater = symbol.Sign signs.Greater
+mark_symbol marks.AtLeast = symbol.Sign signs.AtLeast
 mark_symbol mark = symbol.Other
 
 -- a number: of digits alone, and of 31 bits at most
@@ -69,8 +79,9 @@ pub record IsInside (source : List ℕ) (t : Token) : Type 0 where
   pub ordered : t.from ≤ t.to
   pub within : t.to ≤ length source
 
--- the bytes of a file have tokens, and these spell a source of the first path
+-- the bytes of a file have tokens, and these spell a source of the first path, whose lines are those of a list of statements
 pub record Spells (file : FileNo) (bytes : List ℕ) (s : Source) : Type 0 where
   pub tokens : List Token
   pub cut : lexed file bytes ≡ Ok tokens
   pub spell : symbols bytes tokens ≡ spelled s
+  pub nested : AreNested s.body.procedure.lines

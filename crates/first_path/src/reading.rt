@@ -1,17 +1,15 @@
 ghost use Rattle.std.specs.Prelude.{◌≡◌, ◌<◌, ◌≤◌, List, IfOk, IfErr, OnOk, OnErr, true, false, length};
-ghost use Rattle.first_path.specs.Begins.{Denies, begins_word, begins_term, begins_statement};
-ghost use Rattle.first_path.specs.Spelling.{each_then, sign_of, sign_then, variable_then, primary_then, term_then, sum_then, statement_then, block_then};
+ghost use Rattle.first_path.specs.Begins.{Denies, begins_term};
+ghost use Rattle.first_path.specs.Spelling.{each_then, sign_of, sign_then, variable_then, primary_then, term_then, sum_then};
 ghost use Rattle.first_path.specs.declared.reading.ReadFault.TheVariants as fault;
-ghost use Rattle.first_path.specs.declared.source.Block.{Block};
 ghost use Rattle.first_path.specs.declared.source.Primary.{Primary};
-ghost use Rattle.first_path.specs.declared.source.Statement.{Statement};
 ghost use Rattle.first_path.specs.declared.source.Sum.{Sum};
 ghost use Rattle.first_path.specs.declared.source.Symbol.{Symbol};
 ghost use Rattle.first_path.specs.declared.source.Term.{Term};
 ghost use Rattle.first_path.specs.declared.source.Variable.{Variable};
 
-use crate::source::{Adding, Block, Primary, Sign, Statement, Sum, Symbol, Term, Variable};
-use crate::steps::{NotSpelled, is_next, is_word_next, number, sign, word};
+use crate::source::{Adding, Primary, Sign, Sum, Symbol, Term, Variable};
+use crate::steps::{NotSpelled, is_next, number, sign, word};
 use spark_base::{Items, NoMemory};
 use std::alloc::Global;
 use std::collections::VecDeque;
@@ -117,7 +115,7 @@ fn terms(alloc: Global, rest: &mut VecDeque<Symbol>) -> Result<Items<Term>, Read
 }
 
 /// Reads a sum.
-fn sum(alloc: Global, rest: &mut VecDeque<Symbol>) -> Result<Sum, ReadFault>
+pub fn sum(alloc: Global, rest: &mut VecDeque<Symbol>) -> Result<Sum, ReadFault>
     ensures ok { IfOk result (λ s. rest.old.items ≡ sum_then s rest.new.items) }
     ensures shorter { OnOk result (length rest.new.items < length rest.old.items) }
     ensures stop { OnOk result (begins_term rest.new.items ≡ false) }
@@ -127,79 +125,4 @@ fn sum(alloc: Global, rest: &mut VecDeque<Symbol>) -> Result<Sum, ReadFault>
     let first = primary(rest)?;
     let more = terms(alloc, rest)?;
     Ok(Sum { first, more })
-}
-
-/// Reads an assignment.
-fn assignment(alloc: Global, rest: &mut VecDeque<Symbol>) -> Result<Statement, ReadFault>
-    requires { begins_word rest.old.items ≡ true }
-    ensures ok { IfOk result (λ s. rest.old.items ≡ statement_then s rest.new.items) }
-    ensures shorter { OnOk result (length rest.new.items < length rest.old.items) }
-    ensures err { IfErr result (λ f. Denies f ((s : Statement) (r : List Symbol) → rest.old.items ≡ statement_then s r → ⊥)) }
-{
-    let target = word(rest)?;
-    sign(rest, Sign::Becomes)?;
-    let value = sum(alloc, rest)?;
-    sign(rest, Sign::Semicolon)?;
-    Ok(Statement::Assign { target, value })
-}
-
-/// Reads a null statement.
-fn null_statement(rest: &mut VecDeque<Symbol>) -> Result<Statement, NotSpelled>
-    requires { begins_word rest.old.items ≡ false }
-    ensures ok { IfOk result (λ s. rest.old.items ≡ statement_then s rest.new.items) }
-    ensures shorter { OnOk result (length rest.new.items < length rest.old.items) }
-    ensures err { OnErr result ((s : Statement) (r : List Symbol) → rest.old.items ≡ statement_then s r → ⊥) }
-{
-    sign(rest, Sign::Null)?;
-    sign(rest, Sign::Semicolon)?;
-    Ok(Statement::Null)
-}
-
-/// Reads a statement.
-fn statement(alloc: Global, rest: &mut VecDeque<Symbol>) -> Result<Statement, ReadFault>
-    ensures ok { IfOk result (λ s. rest.old.items ≡ statement_then s rest.new.items) }
-    ensures shorter { OnOk result (length rest.new.items < length rest.old.items) }
-    ensures err { IfErr result (λ f. Denies f ((s : Statement) (r : List Symbol) → rest.old.items ≡ statement_then s r → ⊥)) }
-{
-    if is_word_next(rest) {
-        assignment(alloc, rest)
-    } else {
-        Ok(null_statement(rest)?)
-    }
-}
-
-/// Whether a statement comes next.
-fn is_statement_next(rest: &VecDeque<Symbol>) -> bool
-    ensures { result ≡ begins_statement rest.now.items }
-{
-    is_next(rest, Sign::Null) || is_word_next(rest)
-}
-
-/// Reads the further statements of a list.
-fn statements(alloc: Global, rest: &mut VecDeque<Symbol>) -> Result<Items<Statement>, ReadFault>
-    ensures ok { IfOk result (λ ss. rest.old.items ≡ each_then statement_then ss rest.new.items) }
-    ensures stop { OnOk result (begins_statement rest.new.items ≡ false) }
-    ensures err { IfErr result (λ f. Denies f ((ss : List Statement) (r : List Symbol) → begins_statement r ≡ false
-        → rest.old.items ≡ each_then statement_then ss r → ⊥)) }
-{
-    let mut list = Items::new(alloc);
-    'each: while is_statement_next(rest) {
-        match statement(alloc, rest) {
-            Ok(next) => list.push(next)?,
-            Err(fault) => return Err(fault),
-        }
-    }
-    Ok(list)
-}
-
-/// Reads a list of statements.
-pub fn block(alloc: Global, rest: &mut VecDeque<Symbol>) -> Result<Block, ReadFault>
-    ensures ok { IfOk result (λ b. rest.old.items ≡ block_then b rest.new.items) }
-    ensures stop { OnOk result (begins_statement rest.new.items ≡ false) }
-    ensures err { IfErr result (λ f. Denies f ((b : Block) (r : List Symbol) → begins_statement r ≡ false
-        → rest.old.items ≡ block_then b r → ⊥)) }
-{
-    let first = statement(alloc, rest)?;
-    let more = statements(alloc, rest)?;
-    Ok(Block { first, more })
 }

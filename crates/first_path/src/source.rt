@@ -20,6 +20,15 @@ pub enum Sign {
     Arrow,
     Plus,
     Minus,
+    If,
+    Then,
+    Else,
+    Equal,
+    NotEqual,
+    Less,
+    AtMost,
+    Greater,
+    AtLeast,
 }
 
 /// A word, as it is written, and its place.
@@ -75,18 +84,38 @@ pub struct Sum {
     pub more: Items<Term>,
 }
 
-/// `null;` or `TARGET := VALUE;`
-#[derive(Debug, Drop)]
-pub enum Statement {
-    Null,
-    Assign { target: Word, value: Sum },
+/// How the two sides of a test are compared.
+#[derive(Clone, Copy, Debug, PartialEq, Eq)]
+pub enum Relation {
+    Equal,
+    NotEqual,
+    Less,
+    AtMost,
+    Greater,
+    AtLeast,
 }
 
-/// One statement at least.
+/// The two sides of a test, and how they are compared.
 #[derive(Debug, Drop)]
-pub struct Block {
-    pub first: Statement,
-    pub more: Items<Statement>,
+pub struct Test {
+    pub left: Sum,
+    pub relation: Relation,
+    pub right: Sum,
+}
+
+/// A line of a list of statements: a simple statement, or the head, the middle or the end of an if.
+#[derive(Debug, Drop)]
+pub enum Line {
+    /// `null;`
+    Null,
+    /// `TARGET := VALUE;`
+    Assign { target: Word, value: Sum },
+    /// `if TEST then`
+    If(Test),
+    /// `else`
+    Else,
+    /// `end if;`
+    EndIf,
 }
 
 /// The items of an entry: one name, or names in parentheses.
@@ -132,7 +161,7 @@ pub struct Spec {
 #[derive(Debug, Drop)]
 pub struct ProcedureBody {
     pub name: Word,
-    pub block: Block,
+    pub lines: Items<Line>,
     pub end: Option<Word>,
 }
 

@@ -20,11 +20,14 @@ fn reserved_symbol(word: Reserved) -> Symbol
     match word {
         Reserved::Begin => Symbol::Sign(Sign::Begin),
         Reserved::Body => Symbol::Sign(Sign::Body),
+        Reserved::Else => Symbol::Sign(Sign::Else),
         Reserved::End => Symbol::Sign(Sign::End),
+        Reserved::If => Symbol::Sign(Sign::If),
         Reserved::Is => Symbol::Sign(Sign::Is),
         Reserved::Null => Symbol::Sign(Sign::Null),
         Reserved::Package => Symbol::Sign(Sign::Package),
         Reserved::Procedure => Symbol::Sign(Sign::Procedure),
+        Reserved::Then => Symbol::Sign(Sign::Then),
         Reserved::With => Symbol::Sign(Sign::With),
         _ => Symbol::Other,
     }
@@ -44,6 +47,12 @@ fn mark_symbol(mark: Mark) -> Symbol
         Mark::Arrow => Symbol::Sign(Sign::Arrow),
         Mark::Plus => Symbol::Sign(Sign::Plus),
         Mark::Minus => Symbol::Sign(Sign::Minus),
+        Mark::Equal => Symbol::Sign(Sign::Equal),
+        Mark::NotEqual => Symbol::Sign(Sign::NotEqual),
+        Mark::Less => Symbol::Sign(Sign::Less),
+        Mark::AtMost => Symbol::Sign(Sign::AtMost),
+        Mark::Greater => Symbol::Sign(Sign::Greater),
+        Mark::AtLeast => Symbol::Sign(Sign::AtLeast),
         _ => Symbol::Other,
     }
 }

@@ -12,7 +12,8 @@ ghost use Rattle.first_path.specs.declared.source.Variable.{Variable};
 ghost use Rattle.first_path.specs.declared.source.Word.{Word};
 
 use crate::global::global;
-use crate::reading::{ReadFault, block, variable};
+use crate::lines::lines;
+use crate::reading::{ReadFault, variable};
 use crate::source::{
     PackageBody, ProcedureBody, ProcedureSpec, Sign, Source, Spec, Symbol, Variable, Word,
 };
@@ -109,9 +110,9 @@ fn procedure_body(alloc: Global, rest: &mut VecDeque<Symbol>) -> Result<Procedur
     let name = word(rest)?;
     sign(rest, Sign::Is)?;
     sign(rest, Sign::Begin)?;
-    let block = block(alloc, rest)?;
+    let lines = lines(alloc, rest)?;
     let end = end(rest)?;
-    Ok(ProcedureBody { name, block, end })
+    Ok(ProcedureBody { name, lines, end })
 }
 
 /// Reads the package body.

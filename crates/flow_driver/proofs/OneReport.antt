@@ -15,6 +15,7 @@ use Rattle.first_path.specs.Symbols.{Spells, symbols}
 use Rattle.first_path.specs.declared.source.Source.{Source}
 use Rattle.first_path.proofs.One.{one_source}
 use Rattle.first_lower.specs.Lowered.{IsLowered, elaboration, low_contract, low_procedure}
+use Rattle.first_lower.proofs.Lines.{one_code}
 use Rattle.spark_messages.specs.declared.messages.Message.{Message}
 use Rattle.spark_messages.specs.Message.{HaveSame}
 use Rattle.spark_messages.proofs.MessageOrder.{ordered-unique}
@@ -60,7 +61,7 @@ module _ (s : Source) (p q : Program) (h : IsLowered s p) (k : IsLowered s q) wh
   one_equation =
       equation_same p q (h.leaves ∙ sym k.leaves) (h.vars ∙ sym k.vars) 2 (procedure s h.third) (procedure s k.third)
       (ap (λ (bodies : List Body). slice_get bodies 2) h.bodies) (ap (λ (bodies : List Body). slice_get bodies 2) k.bodies)
-      refl (h.procedure_code ∙ sym k.procedure_code)
+      refl (h.procedure_code ∙ one_code (variable_keys s.spec.variables) h.statements k.statements (sym h.written ∙ k.written) ∙ sym k.procedure_code)
 
   one_found : (found other : List Message) → AreMessagesFrom p 0 p.bodies found → AreMessagesFrom q 0 q.bodies other → found ≡ other
   one_found found other m n =

@@ -3,6 +3,7 @@ ghost use Rattle.std.specs.Option.{option_copied};
 ghost use Rattle.core_form.specs.Fine.{IsWellFormed};
 ghost use Rattle.flow_driver.specs.Report.{IsReading, HasReport, AreFlowMessages, AreBodyMessages, AreMessagesFrom, checked_contract, refusal};
 ghost use Rattle.first_conditions.specs.Conditions.{MeetsConditions};
+ghost use Rattle.first_path.specs.Nested.{AreNested};
 ghost use Rattle.flow_driver.specs.Found.{Appends, IsLoweredFrom};
 
 use crate::global_check::append_global_messages;
@@ -30,6 +31,7 @@ pub struct Report {
 
 /// The program of a source that was read, and none where it does not meet the conditions.
 fn lowered(alloc: Global, source: &Source) -> Result<Option<Program>, NoMemory>
+    requires { AreNested source.now.body.procedure.lines }
     ensures some { IfOk result (λ r. IfSome r (IsLoweredFrom source.now)) }
     ensures none { IfOk result (λ r. IfNone r (MeetsConditions source.now → ⊥)) }
 {

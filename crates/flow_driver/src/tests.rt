@@ -2,7 +2,7 @@
 use crate::run_words;
 use source_io::{MemoryFiles, MemorySink, Open};
 use spark_base::Bytes;
-use std::alloc::Global;
+use std::alloc::{AllocError, Global};
 use std::test::Fail;
 
 /// The counter: its Global says how it is used.
@@ -44,6 +44,59 @@ package body Counter is
 end Counter;
 ";
 
+/// An output that one path leaves: what it held before may be seen behind the call.
+const LEFT_OUTPUT: &str = "package P is
+   X : Integer := 0;
+   Y : Integer := 0;
+   procedure Set with Global => (Input => Y, Output => X);
+end P;
+package body P is
+   procedure Set is
+   begin
+      if Y > 0 then
+         X := 1;
+      end if;
+   end Set;
+end P;
+";
+
+/// The same with an else that assigns it.
+const SET_OUTPUT: &str = "package P is
+   X : Integer := 0;
+   Y : Integer := 0;
+   procedure Set with Global => (Input => Y, Output => X);
+end P;
+package body P is
+   procedure Set is
+   begin
+      if Y > 0 then
+         X := 1;
+      else
+         X := Y;
+      end if;
+   end Set;
+end P;
+";
+
+/// An output that a test reads, on one of two paths that both assign it.
+const TESTED_OUTPUT: &str = "package P is
+   X : Integer := 0;
+   Y : Integer := 0;
+   procedure Set with Global => (Input => Y, Output => X);
+end P;
+package body P is
+   procedure Set is
+   begin
+      if Y /= 0 then
+         if Y + 1 <= X then
+            null;
+         end if;
+      end if;
+      X := 1;
+   end Set;
+end P;
+";
+
 /// The counter with nothing listed.
 const UNLISTED: &str = "package Counter is
    Count : Integer := 0;
@@ -77,6 +130,10 @@ const OUTSIDE: &str = "package P is
    procedure Q (A : in Integer; R : out Integer);
 end P;
 ";
+
+/// What is printed of a source that is outside the subset.
+const REFUSED: &[u8] =
+    b"inc.ada:1:1: refused: \"source\" is outside the subset [U01]\nsparkflow: 1 errors, 0 warnings\n";
 
 fn words_of(alloc: Global, list: &[&str]) -> Result<Vec<String>, Fail> {
     let mut words = Vec::new(alloc);
@@ -163,6 +220,63 @@ fn output_that_is_read(rt: HostRuntime) -> Result<(), Fail> {
 }
 
 #[test]
+fn output_that_one_path_leaves(rt: HostRuntime) -> Result<(), Fail> {
+    let got = printed(rt.alloc(), LEFT_OUTPUT)?;
+    let want =
+        b"inc.ada:4:56: error: \"P.X\" is Output but \"P.Set\" may read its initial value or leave it; it must be In_Out [G03]\nsparkflow: 1 errors, 0 warnings\n";
+    assert_eq!(rt; got.status, 1);
+    assert_eq!(rt; got.out.as_slice(), want.as_slice());
+    Ok(())
+}
+
+#[test]
+fn output_that_each_path_sets(rt: HostRuntime) -> Result<(), Fail> {
+    let got = printed(rt.alloc(), SET_OUTPUT)?;
+    assert_eq!(rt; got.status, 0);
+    assert_eq!(rt;
+        got.out.as_slice(),
+        b"sparkflow: 0 errors, 0 warnings\n".as_slice()
+    );
+    Ok(())
+}
+
+#[test]
+fn output_that_a_test_reads(rt: HostRuntime) -> Result<(), Fail> {
+    let got = printed(rt.alloc(), TESTED_OUTPUT)?;
+    let want =
+        b"inc.ada:4:56: error: \"P.X\" is Output but \"P.Set\" may read its initial value or leave it; it must be In_Out [G03]\nsparkflow: 1 errors, 0 warnings\n";
+    assert_eq!(rt; got.status, 1);
+    assert_eq!(rt; got.out.as_slice(), want.as_slice());
+    Ok(())
+}
+
+/// A source that is accepted, with so many ifs, one in another, before its own.
+fn with_ifs(alloc: Global, depth: usize) -> Result<String, AllocError> {
+    let mut text = String::new(alloc);
+    for _ in 0..depth {
+        text.push_str("if Y > 0 then ")?;
+    }
+    text.push_str("null; ")?;
+    for _ in 0..depth {
+        text.push_str("end if; ")?;
+    }
+    text.push_str("if Y > 0 then")?;
+    SET_OUTPUT.replace(alloc, "if Y > 0 then", text.as_str())
+}
+
+#[test]
+fn open_ifs_have_a_limit(rt: HostRuntime) -> Result<(), Fail> {
+    let deepest = with_ifs(rt.alloc(), 128)?;
+    let got = printed(rt.alloc(), deepest.as_str())?;
+    assert_eq!(rt; got.status, 0);
+    let deeper = with_ifs(rt.alloc(), 129)?;
+    let got = printed(rt.alloc(), deeper.as_str())?;
+    assert_eq!(rt; got.status, 2);
+    assert_eq!(rt; got.out.as_slice(), REFUSED);
+    Ok(())
+}
+
+#[test]
 fn global_that_lists_nothing(rt: HostRuntime) -> Result<(), Fail> {
     let got = printed(rt.alloc(), UNLISTED)?;
     let want =
@@ -184,12 +298,10 @@ fn used_modes_in_order(rt: HostRuntime) -> Result<(), Fail> {
 
 #[test]
 fn source_outside_the_subset(rt: HostRuntime) -> Result<(), Fail> {
-    let want =
-        b"inc.ada:1:1: refused: \"source\" is outside the subset [U01]\nsparkflow: 1 errors, 0 warnings\n";
     for source in [OUTSIDE, "", "\n", "package"] {
         let got = printed(rt.alloc(), source)?;
         assert_eq!(rt; got.status, 2);
-        assert_eq!(rt; got.out.as_slice(), want.as_slice());
+        assert_eq!(rt; got.out.as_slice(), REFUSED);
     }
     Ok(())
 }

@@ -19,18 +19,18 @@ pub assemble-requires-clause-known : goal.assemble-requires-clause-known
 assemble-requires-clause-known c = global_known c.args.source.now c.args.table.now c.requires.conditions c.requires.table
 
 pub returns-clause-lowered : goal.returns-clause-lowered
-returns-clause-lowered c = lowered _ _ _ _ _ c.in_ok-program.ensures c.in_ok-roots.ensures.roots c.requires.table
+returns-clause-lowered c = lowered _ _ _ _ _ c.in_ok-program.ensures c.in_ok-roots.ensures.roots c.requires.nested c.requires.table
 
 pub returns-clause-fine : goal.returns-clause-fine
 returns-clause-fine c =
     let same = as_many c.args.source.now c.args.table.now c.requires.table in
     well_formed _ _ _ _ _ c.in_ok-program.ensures c.in_ok-roots.ensures.roots same
-    c.in_ok-roots.ensures.adds.fine (omega (arith, c.in_ok-roots.ensures.adds.leaves))
+    c.in_ok-roots.ensures.adds.fine (omega (arith, c.in_ok-roots.ensures.adds.leaves)) c.requires.nested
     (body_known c.args.source.now c.args.table.now c.requires.conditions c.requires.table)
     (global_known c.args.source.now c.args.table.now c.requires.conditions c.requires.table)
 
 pub returns-clause-proper : goal.returns-clause-proper
 returns-clause-proper c =
     let same = as_many c.args.source.now c.args.table.now c.requires.table in
-    proper _ _ _ _ _ c.in_ok-program.ensures c.in_ok-roots.ensures.roots same
+    proper _ _ _ _ _ c.in_ok-program.ensures c.in_ok-roots.ensures.roots same c.requires.nested
     (body_known c.args.source.now c.args.table.now c.requires.conditions c.requires.table)

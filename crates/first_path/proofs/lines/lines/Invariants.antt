@@ -1,10 +1,10 @@
 use Rattle.std.proofs.Common.{◌≡◌, length}
-use Rattle.first_path.specs.Spelling.{each_then, statement_then}
-use Rattle.first_path.proofs.reading.statements.Given as goal
+use Rattle.first_path.specs.Spelling.{each_then, line_then}
+use Rattle.first_path.proofs.lines.lines.Given as goal
 
 -- what was read, with what is left, is what stood there
 abbrev pub invariant-each : goal.invariant-each
-invariant-each l = l.initial.rest.items ≡ each_then statement_then l.list l.rest.items
+invariant-each l = l.initial.rest.items ≡ each_then line_then l.list l.rest.items
 
 abbrev pub decreases-each : goal.decreases-each
 decreases-each l = length l.rest.items
