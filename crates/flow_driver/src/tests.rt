@@ -131,6 +131,13 @@ const OUTSIDE: &str = "package P is
 end P;
 ";
 
+/// A main procedure: outside the first path.
+const MAIN: &str = "procedure Main is
+begin
+   null;
+end Main;
+";
+
 /// What is printed of a source that is outside the subset.
 const REFUSED: &[u8] =
     b"inc.ada:1:1: refused: \"source\" is outside the subset [U01]\nsparkflow: 1 errors, 0 warnings\n";
@@ -298,7 +305,7 @@ fn used_modes_in_order(rt: HostRuntime) -> Result<(), Fail> {
 
 #[test]
 fn source_outside_the_subset(rt: HostRuntime) -> Result<(), Fail> {
-    for source in [OUTSIDE, "", "\n", "package"] {
+    for source in [OUTSIDE, MAIN, "", "\n", "package"] {
         let got = printed(rt.alloc(), source)?;
         assert_eq!(rt; got.status, 2);
         assert_eq!(rt; got.out.as_slice(), REFUSED);
