@@ -1,0 +1,6 @@
+pub mod Ahead
+pub mod Answering
+pub mod Begins
+pub mod EverySort
+pub mod NodeTrees
+pub mod Steps
