@@ -13,7 +13,7 @@ use Rattle.ada_grammar.specs.Lexemes.{Lexeme, sort}
 use Rattle.ada_grammar.specs.Built.{nowhere}
 use Rattle.ada_grammar.specs.Phrases as phrases
 use Rattle.ada_grammar.specs.Phrases.{Phrase, Tree}
-use Rattle.ada_grammar.specs.Grammar.{Part, Expr, Continued, RestOfExpr, BehindAnd, BehindOr, Opened, Begun, Joined, Chain, Rel, RestOfRel, Membership, Simple, Sums, Term, Products, Factor, Powered, Primary, Parens, Condition, Arms, InParens, NamedFrom, BehindExpr, Items, LastItem, Association, Choices, Associations, Choice, Name, Suffixes, MayOpen, BehindTick, BehindAttribute, Values, Arguments, Argument, Drange, SubtypeRange, Body, Never, Gives, Take, Call, Rest, Or, When, word, mark, rule, Fits, gives, take, call, rest, left, right, yes, no, Spells, first_of, empties_of}
+use Rattle.ada_grammar.specs.Grammar.{Part, Expr, Continued, RestOfExpr, BehindAnd, BehindOr, Opened, Begun, Chain, Rel, RestOfRel, Membership, Simple, Signed, Sums, Term, Products, Factor, Powered, Primary, Parens, Condition, Arms, InParens, NamedFrom, BehindExpr, Items, LastItem, Association, Choices, Associations, Choice, Name, Suffixes, MayOpen, BehindTick, BehindAttribute, Values, Arguments, Argument, Drange, SubtypeRange, Body, Never, Gives, Take, Call, Rest, Or, When, word, mark, rule, Fits, gives, take, call, rest, left, right, yes, no, Spells, first_of, empties_of}
 use Rattle.ada_grammar.proofs.EverySort.{all_sorts, by_sort, word_self, mark_self}
 
 -- if the first test holds, the second does
@@ -86,17 +86,12 @@ chain_empties : (o : LogicalOperator) (a : Phrase) → empties (rule (Chain o a)
 chain_empties logical.And a = refl
 chain_empties o a = refl
 
-joined_empties : (o : LogicalOperator) (a : Phrase) (t : Lexeme) → empties (rule (Joined o a t)) ≡ empties_of (Joined o a t)
-joined_empties logical.And a t = refl
-joined_empties o a t = refl
-
 may_open_empties : (b : Bool) (a : Phrase) → empties (rule (MayOpen b a)) ≡ empties_of (MayOpen b a)
 may_open_empties true a = refl
 may_open_empties false a = refl
 
 empties_table : (p : Part) → empties (rule p) ≡ empties_of p
 empties_table (Chain o a) = chain_empties o a
-empties_table (Joined o a t) = joined_empties o a t
 empties_table (MayOpen b a) = may_open_empties b a
 empties_table Expr = refl
 empties_table p = refl
@@ -108,10 +103,6 @@ chain_first : (o : LogicalOperator) (a : Phrase) → FirstTable (Chain o a)
 chain_first logical.And a = refl
 chain_first o a = refl
 
-joined_first : (o : LogicalOperator) (a : Phrase) (t : Lexeme) → FirstTable (Joined o a t)
-joined_first logical.And a t = refl
-joined_first o a t = refl
-
 suffixes_first : (b : Bool) (a : Phrase) → FirstTable (Suffixes b a)
 suffixes_first true a = refl
 suffixes_first false a = refl
@@ -122,7 +113,6 @@ may_open_first false a = refl
 
 first_table : (p : Part) → FirstTable p
 first_table (Chain o a) = chain_first o a
-first_table (Joined o a t) = joined_first o a t
 first_table (Suffixes b a) = suffixes_first b a
 first_table (MayOpen b a) = may_open_first b a
 first_table Expr = refl
@@ -251,7 +241,6 @@ sample_phrase (BehindAnd a o) = phrases.logical logical.And o a number
 sample_phrase (BehindOr a o) = phrases.logical logical.Or o a number
 sample_phrase (Opened operator a o) = phrases.logical operator o a number
 sample_phrase (Begun operator a o) = phrases.logical operator o a number
-sample_phrase (Joined operator a o) = phrases.logical operator o a number
 sample_phrase (Chain operator a) = a
 sample_phrase (RestOfRel a) = a
 sample_phrase (Membership is_not a) = phrases.range_membership is_not a number number
@@ -299,8 +288,11 @@ sample_factor = right (right (rest sample_powered))
 sample_term : Spells Term number one
 sample_term = call sample_factor (rest (right gives))
 
+sample_signed : Spells Signed number one
+sample_signed = right (rest sample_term)
+
 sample_simple : Spells Simple number one
-sample_simple = right (call sample_term (rest (right gives)))
+sample_simple = call sample_signed (rest (right gives))
 
 sample_rest_of_rel : (a : Phrase) → Spells (RestOfRel a) a []
 sample_rest_of_rel a = right (right (right gives))
@@ -316,13 +308,6 @@ sample_expr = call sample_simple (rest (sample_continued number))
 
 sample_begun : (o : LogicalOperator) (a : Phrase) (t : Lexeme) → Spells (Begun o a t) (phrases.logical o t a number) one
 sample_begun o a t = call sample_rel gives
-
-sample_joined : (o : LogicalOperator) (a : Phrase) (t : Lexeme) → Sampled (Joined o a t)
-sample_joined logical.And a t = (one, rest (sample_begun logical.And a t))
-sample_joined logical.Or a t = (one, rest (sample_begun logical.Or a t))
-sample_joined logical.Xor a t = (one, rest (sample_begun logical.Xor a t))
-sample_joined logical.AndThen a t = (token (word words.Then) ∷ one, take refl (rest (sample_begun logical.AndThen a t)))
-sample_joined logical.OrElse a t = (token (word words.Else) ∷ one, take refl (rest (sample_begun logical.OrElse a t)))
 
 sample_chain : (o : LogicalOperator) (a : Phrase) → Spells (Chain o a) a []
 sample_chain logical.And a = right gives
@@ -362,12 +347,12 @@ sample (BehindAnd a o) = (one, right (rest (sample_opened logical.And a o)))
 sample (BehindOr a o) = (one, right (rest (sample_opened logical.Or a o)))
 sample (Opened operator a o) = (one, sample_opened operator a o)
 sample (Begun operator a o) = (one, sample_begun operator a o)
-sample (Joined operator a o) = sample_joined operator a o
 sample (Chain operator a) = ([], sample_chain operator a)
 sample Rel = (one, sample_rel)
 sample (RestOfRel a) = ([], sample_rest_of_rel a)
 sample (Membership is_not a) = (token classes.Number ∷ token (mark marks.Dots) ∷ one, call sample_simple (left (take refl (call sample_simple gives))))
 sample Simple = (one, sample_simple)
+sample Signed = (one, sample_signed)
 sample (Sums a) = ([], right gives)
 sample Term = (one, sample_term)
 sample (Products a) = ([], right gives)

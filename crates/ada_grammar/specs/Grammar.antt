@@ -23,12 +23,12 @@ pub data Part : Type 0 where
   BehindOr : Phrase → Lexeme → Part
   Opened : LogicalOperator → Phrase → Lexeme → Part
   Begun : LogicalOperator → Phrase → Lexeme → Part
-  Joined : LogicalOperator → Phrase → Lexeme → Part
   Chain : LogicalOperator → Phrase → Part
   Rel : Part
   RestOfRel : Phrase → Part
   Membership : Bool → Phrase → Part
   Simple : Part
+  Signed : Part
   Sums : Phrase → Part
   Term : Part
   Products : Phrase → Part
@@ -74,14 +74,6 @@ word w = classes.Reserved w
 abbrev pub mark : Mark → Class
 mark m = classes.Mark m
 
--- the word with which an operator begins
-abbrev pub first_word : LogicalOperator → Reserved
-first_word logical.And = words.And
-first_word logical.AndThen = words.And
-first_word logical.Or = words.Or
-first_word logical.OrElse = words.Or
-first_word logical.Xor = words.Xor
-
 abbrev pub rule : Part → Body
 -- expr = rel {"and" rel} | rel {"or" rel} | rel {"xor" rel} | rel {"and" "then" rel} | rel {"or" "else" rel}
 rule Expr = Call Simple (λ a. Rest (Continued a))
@@ -97,18 +89,12 @@ rule (BehindOr a o) = Or (Take (word words.Else) (λ t. Rest (Opened logical.OrE
 rule (Opened operator a o) = Call (Begun operator a o) (λ b. Rest (Chain operator b))
 -- the right operand, behind all words of the operator
 rule (Begun operator a o) = Call Rel (λ b. Gives (phrases.logical operator o a b))
--- the right operand, behind the first word of the operator
-rule (Joined logical.AndThen a o) = Take (word words.Then) (λ t. Rest (Begun logical.AndThen a o))
-rule (Joined logical.OrElse a o) = Take (word words.Else) (λ t. Rest (Begun logical.OrElse a o))
-rule (Joined logical.And a o) = Rest (Begun logical.And a o)
-rule (Joined logical.Or a o) = Rest (Begun logical.Or a o)
-rule (Joined logical.Xor a o) = Rest (Begun logical.Xor a o)
 -- a chain of one operator
-rule (Chain logical.And a) = Or (Take (word words.And) (λ o. Call (Joined logical.And a o) (λ b. Rest (Chain logical.And b)))) (Gives a)
-rule (Chain logical.AndThen a) = Or (Take (word words.And) (λ o. Call (Joined logical.AndThen a o) (λ b. Rest (Chain logical.AndThen b)))) (Gives a)
-rule (Chain logical.Or a) = Or (Take (word words.Or) (λ o. Call (Joined logical.Or a o) (λ b. Rest (Chain logical.Or b)))) (Gives a)
-rule (Chain logical.OrElse a) = Or (Take (word words.Or) (λ o. Call (Joined logical.OrElse a o) (λ b. Rest (Chain logical.OrElse b)))) (Gives a)
-rule (Chain logical.Xor a) = Or (Take (word words.Xor) (λ o. Call (Joined logical.Xor a o) (λ b. Rest (Chain logical.Xor b)))) (Gives a)
+rule (Chain logical.And a) = Or (Take (word words.And) (λ o. Call (Begun logical.And a o) (λ b. Rest (Chain logical.And b)))) (Gives a)
+rule (Chain logical.Or a) = Or (Take (word words.Or) (λ o. Call (Begun logical.Or a o) (λ b. Rest (Chain logical.Or b)))) (Gives a)
+rule (Chain logical.Xor a) = Or (Take (word words.Xor) (λ o. Call (Begun logical.Xor a o) (λ b. Rest (Chain logical.Xor b)))) (Gives a)
+rule (Chain logical.AndThen a) = Or (Take (word words.And) (λ o. Take (word words.Then) (λ t. Call (Begun logical.AndThen a o) (λ b. Rest (Chain logical.AndThen b))))) (Gives a)
+rule (Chain logical.OrElse a) = Or (Take (word words.Or) (λ o. Take (word words.Else) (λ t. Call (Begun logical.OrElse a o) (λ b. Rest (Chain logical.OrElse b))))) (Gives a)
 -- rel = simple [("=" | "/=" | "<" | "<=" | ">" | ">=") simple] | simple ["not"] "in" (simple ".." simple | mark)
 rule Rel = Call Simple (λ a. Rest (RestOfRel a))
 rule (RestOfRel a) =
@@ -120,7 +106,8 @@ rule (Membership is_not a) = Call Simple (λ low.
   Or (Take (mark marks.Dots) (λ d. Call Simple (λ high. Gives (phrases.range_membership is_not a low high))))
   (When (phrases.is_mark low.form) (Gives (phrases.mark_membership is_not a low)) Never))
 -- simple = ["+" | "-"] term {("+" | "-") term}
-rule Simple = Or (Take classes.Adding (λ s. Call Term (λ a. Rest (Sums (phrases.sign s a))))) (Call Term (λ a. Rest (Sums a)))
+rule Simple = Call Signed (λ a. Rest (Sums a))
+rule Signed = Or (Take classes.Adding (λ s. Call Term (λ a. Gives (phrases.sign s a)))) (Rest Term)
 rule (Sums a) = Or (Take classes.Adding (λ o. Call Term (λ b. Rest (Sums (phrases.sum o a b))))) (Gives a)
 -- term = factor {("*" | "/" | "mod" | "rem") factor}
 rule Term = Call Factor (λ a. Rest (Products a))
@@ -140,7 +127,7 @@ rule (Parens o) = Or (Take (word words.If) (λ t. Call (Condition t) (λ c. Take
 -- ifexpr = "if" expr "then" expr {"elsif" expr "then" expr} "else" expr
 rule (Condition t) = Call Expr (λ c. Take (word words.Then) (λ u. Call Expr (λ v. Rest (Arms t (c.tree ∷ v.tree ∷ [])))))
 rule (Arms t arms) =
-  Or (Take (word words.Elsif) (λ e. Call Expr (λ c. Take (word words.Then) (λ u. Call Expr (λ v. Rest (Arms t (arms ++ c.tree ∷ v.tree ∷ [])))))))
+  Or (Take (word words.Elsif) (λ e. Call Expr (λ c. Take (word words.Then) (λ u. Call Expr (λ v. Rest (Arms t ((arms ++ c.tree ∷ []) ++ v.tree ∷ [])))))))
   (Take (word words.Else) (λ e. Call Expr (λ v. Gives (phrases.conditional t arms v))))
 -- aggregate | "(" expr ")", behind its parenthesis
 rule (InParens o) =
@@ -250,8 +237,6 @@ first_of (Continued a) s = among (comparisons ++ chains) s
 first_of (RestOfExpr a) s = among chains s
 first_of (BehindAnd a o) s = among (word words.Then ∷ simples) s
 first_of (BehindOr a o) s = among (word words.Else ∷ simples) s
-first_of (Joined logical.AndThen a o) s = is_in (word words.Then) s
-first_of (Joined logical.OrElse a o) s = is_in (word words.Else) s
 first_of (Chain operator a) s = among chains s
 first_of (RestOfRel a) s = among comparisons s
 first_of (Sums a) s = is_in classes.Adding s
@@ -315,11 +300,11 @@ more_of_expr = word words.And ∷ word words.Or ∷ word words.Xor ∷ more_of_r
 
 abbrev pub more : Part → Sort → Bool
 more (Begun operator a o) s = among more_of_rel s
-more (Joined operator a o) s = among more_of_rel s
 more Rel s = among more_of_rel s
 more (RestOfRel a) s = among more_of_rel s
 more (Membership is_not a) s = among more_of_rel s
 more Simple s = among more_of_simple s
+more Signed s = among more_of_term s
 more (Sums a) s = among more_of_simple s
 more Term s = among more_of_term s
 more (Products a) s = among more_of_term s

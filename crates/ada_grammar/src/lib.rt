@@ -7,6 +7,6 @@ mod tokens;
 
 pub use nodes::{
     Built, Form, add_named, add_node, add_one, add_three, add_two, adding_of, is_identifier, is_mark, is_range, join,
-    multiplying_of, number_of, relational_of, selected_form,
+    multiplying_of, number_of, one, relational_of, selected_form, two,
 };
-pub use tokens::{Class, Cursor, Fault, Nesting, accept, expect, first_word};
+pub use tokens::{Class, Cursor, Fault, Nesting, accept, expect};

@@ -277,3 +277,19 @@ pub fn add_three(
     let children = vec![in alloc; a, b, c]?;
     add_node(exprs, form, kind, span, Items::from_vec(children))
 }
+
+/// One number.
+pub fn one(alloc: Global, a: ExprNo) -> Result<Items<ExprNo>, NoMemory>
+    ensures { IfOk result (λ all. all ≡ a ∷ []) }
+{
+    let all = vec![in alloc; a]?;
+    Ok(Items::from_vec(all))
+}
+
+/// Two numbers.
+pub fn two(alloc: Global, a: ExprNo, b: ExprNo) -> Result<Items<ExprNo>, NoMemory>
+    ensures { IfOk result (λ all. all ≡ a ∷ b ∷ []) }
+{
+    let all = vec![in alloc; a, b]?;
+    Ok(Items::from_vec(all))
+}

@@ -1,12 +1,10 @@
-ghost use Rattle.std.specs.Prelude.{◌≡◌, ◌≤◌, false, length};
-ghost use Rattle.ada_grammar.specs.Grammar as grammar;
-ghost use Rattle.ada_grammar.specs.Lexemes as texts;
+ghost use Rattle.std.specs.Prelude.{◌≡◌, false};
 ghost use Rattle.ada_grammar.specs.Lexemes.{lexemes, lexeme};
 ghost use Rattle.ada_grammar.specs.Limits as limits;
 ghost use Rattle.ada_grammar.specs.Sorts as sorts;
 ghost use Rattle.ada_grammar.specs.Taking.{Accepts, Expects};
 
-use ada_tree::{LogicalOperator, Mark, Reserved, Token, TokenKind, Tokens};
+use ada_tree::{Mark, Reserved, Token, TokenKind, Tokens};
 use spark_base::NoMemory;
 use std::alloc::{AllocError, AllocFailed};
 
@@ -85,17 +83,6 @@ impl<T: Drop> From<AllocFailed<T>> for Fault {
 
     fn from(_: AllocFailed<T>) -> Fault {
         Fault::NoMemory
-    }
-}
-
-/// The word with which an operator begins.
-pub fn first_word(operator: LogicalOperator) -> Reserved
-    ensures { result ≡ grammar.first_word operator }
-{
-    match operator {
-        LogicalOperator::And | LogicalOperator::AndThen => Reserved::And,
-        LogicalOperator::Or | LogicalOperator::OrElse => Reserved::Or,
-        LogicalOperator::Xor => Reserved::Xor,
     }
 }
 
@@ -273,7 +260,6 @@ impl Nesting {
 
 /// Takes the next token if it is of the class. The fault can only be `Limit`, at this token.
 pub fn accept(tokens: &Tokens, cursor: Cursor, class: Class) -> Result<Option<(Token, Cursor)>, Fault>
-    requires at { cursor.at ≤ length tokens.now.list }
     ensures { Accepts class (lexeme tokens.now.source) (lexemes tokens.now) cursor result }
 {
     let list = tokens.list.as_slice();
@@ -297,7 +283,6 @@ pub fn accept(tokens: &Tokens, cursor: Cursor, class: Class) -> Result<Option<(T
 
 /// Takes the next token, which has to be of the class. The fault is `Limit` or `Syntax`, at this place.
 pub fn expect(tokens: &Tokens, cursor: Cursor, class: Class) -> Result<(Token, Cursor), Fault>
-    requires at { cursor.at ≤ length tokens.now.list }
     ensures { Expects class (lexeme tokens.now.source) (lexemes tokens.now) cursor result }
 {
     match accept(tokens, cursor, class)? {
