@@ -13,7 +13,7 @@ use Rattle.ada_grammar.specs.Lexemes.{Lexeme, sort}
 use Rattle.ada_grammar.specs.Built.{nowhere}
 use Rattle.ada_grammar.specs.Phrases as phrases
 use Rattle.ada_grammar.specs.Phrases.{Phrase, Tree}
-use Rattle.ada_grammar.specs.Grammar.{Part, Expr, Continued, RestOfExpr, BehindAnd, BehindOr, Opened, Begun, Chain, Rel, RestOfRel, Membership, Simple, Signed, Sums, Term, Products, Factor, Powered, Primary, Parens, Condition, Arms, InParens, NamedFrom, BehindExpr, Items, LastItem, Association, Choices, Associations, Choice, Name, Suffixes, MayOpen, BehindTick, BehindAttribute, Values, Arguments, Argument, Drange, SubtypeRange, Body, Never, Gives, Take, Call, Rest, Or, When, word, mark, rule, Fits, gives, take, call, rest, left, right, yes, no, Spells, first_of, empties_of}
+use Rattle.ada_grammar.specs.Grammar.{Part, Expr, Continued, RestOfExpr, BehindAnd, BehindOr, Opened, Begun, Chain, Rel, RestOfRel, Membership, Simple, Signed, Sums, Term, Products, Factor, Powered, Primary, Parens, Condition, Arms, InParens, NamedFrom, BehindExpr, Items, LastItem, Association, Choices, Associations, Choice, Name, Suffixes, MayOpen, BehindTick, BehindAttribute, ValuesFrom, Values, ArgumentsFrom, Arguments, Argument, Drange, SubtypeRange, Body, Never, Gives, Take, Call, Rest, Or, When, word, mark, rule, Fits, gives, take, call, rest, left, right, yes, no, Spells, first_of, empties_of}
 use Rattle.ada_grammar.proofs.EverySort.{all_sorts, by_sort, word_self, mark_self}
 
 -- if the first test holds, the second does
@@ -263,7 +263,9 @@ sample_phrase (Suffixes may_open a) = a
 sample_phrase (MayOpen may_open a) = a
 sample_phrase (BehindTick a) = phrases.attribute kinds.Word a (token classes.AttributeName)
 sample_phrase (BehindAttribute a n) = phrases.attribute n.token.kind a n
+sample_phrase (ValuesFrom a n) = phrases.attribute_of n.token.kind a.span n (a.tree ∷ number.tree ∷ []) close
 sample_phrase (Values span n values) = phrases.attribute_of n.token.kind span n values close
+sample_phrase (ArgumentsFrom a) = phrases.applied a.span (a.tree ∷ (phrases.argument number).tree ∷ []) close
 sample_phrase (Arguments span arguments) = phrases.applied span arguments close
 sample_phrase Argument = phrases.argument number
 sample_phrase Drange = phrases.bounds_range number number
@@ -338,6 +340,9 @@ sample_may_open false a = gives
 sample_suffixes : (b : Bool) (a : Phrase) → Spells (Suffixes b a) a []
 sample_suffixes b a = right (right (rest (sample_may_open b a)))
 
+sample_argument : Spells Argument (phrases.argument number) one
+sample_argument = call sample_expr (no gives)
+
 -- each part has a sentence
 pub sample : (p : Part) → Sampled p
 sample Expr = (one, sample_expr)
@@ -376,9 +381,11 @@ sample (Suffixes may_open a) = ([], sample_suffixes may_open a)
 sample (MayOpen may_open a) = ([], sample_may_open may_open a)
 sample (BehindTick a) = (token classes.AttributeName ∷ [], left (take refl (rest (right (rest (sample_suffixes false (phrases.attribute kinds.Word a (token classes.AttributeName))))))))
 sample (BehindAttribute a n) = ([], right (rest (sample_suffixes false (phrases.attribute n.token.kind a n))))
+sample (ValuesFrom a n) = (token classes.Number ∷ close ∷ [], call sample_expr (rest (right (take refl gives))))
 sample (Values span n values) = (close ∷ [], right (take refl gives))
+sample (ArgumentsFrom a) = (token classes.Number ∷ close ∷ [], call sample_argument (rest (right (take refl gives))))
 sample (Arguments span arguments) = (close ∷ [], right (take refl gives))
-sample Argument = (one, call sample_expr (no gives))
+sample Argument = (one, sample_argument)
 sample Drange = (token classes.Number ∷ token (mark marks.Dots) ∷ one, call sample_simple (left (take refl (call sample_simple gives))))
 sample (SubtypeRange a) = ([], right gives)
 

@@ -52,7 +52,9 @@ pub data Part : Type 0 where
   MayOpen : Bool → Phrase → Part
   BehindTick : Phrase → Part
   BehindAttribute : Phrase → Lexeme → Part
+  ValuesFrom : Phrase → Lexeme → Part
   Values : Span → Lexeme → List Tree → Part
+  ArgumentsFrom : Phrase → Part
   Arguments : Span → List Tree → Part
   Argument : Part
   Drange : Part
@@ -166,17 +168,19 @@ rule (Suffixes may_open a) =
   Or (Take (mark marks.Dot) (λ d. Take classes.Word (λ n. Rest (Suffixes true (phrases.selected a n)))))
   (Or (Take (mark marks.Tick) (λ t. Rest (BehindTick a)))
   (Rest (MayOpen may_open a)))
-rule (MayOpen true a) = Or (Take (mark marks.Open) (λ o. Call Argument (λ b. Call (Arguments a.span (a.tree ∷ b.tree ∷ [])) (λ n. Rest (Suffixes true n))))) (Gives a)
+rule (MayOpen true a) = Or (Take (mark marks.Open) (λ o. Call (ArgumentsFrom a) (λ n. Rest (Suffixes true n)))) (Gives a)
 rule (MayOpen false a) = Gives a
 rule (BehindTick a) =
   Or (Take classes.AttributeName (λ n. Rest (BehindAttribute a n)))
   (Take (mark marks.Open) (λ o. Call (InParens o) (λ q. Rest (Suffixes true (phrases.qualified a q)))))
 rule (BehindAttribute a n) =
-  Or (Take (mark marks.Open) (λ o. Call Expr (λ b. Call (Values a.span n (a.tree ∷ b.tree ∷ [])) (λ v. Rest (Suffixes true v)))))
+  Or (Take (mark marks.Open) (λ o. Call (ValuesFrom a n) (λ v. Rest (Suffixes true v))))
   (Rest (Suffixes false (phrases.attribute n.token.kind a n)))
+rule (ValuesFrom a n) = Call Expr (λ b. Rest (Values a.span n (a.tree ∷ b.tree ∷ [])))
 rule (Values first n values) =
   Or (Take (mark marks.Comma) (λ c. Call Expr (λ b. Rest (Values first n (values ++ b.tree ∷ [])))))
   (Take (mark marks.Close) (λ z. Gives (phrases.attribute_of n.token.kind first n values z)))
+rule (ArgumentsFrom a) = Call Argument (λ b. Rest (Arguments a.span (a.tree ∷ b.tree ∷ [])))
 rule (Arguments first arguments) =
   Or (Take (mark marks.Comma) (λ c. Call Argument (λ b. Rest (Arguments first (arguments ++ b.tree ∷ [])))))
   (Take (mark marks.Close) (λ z. Gives (phrases.applied first arguments z)))
@@ -263,8 +267,8 @@ first_of (MayOpen true a) s = is_in (mark marks.Open) s
 first_of (MayOpen false a) s = false
 first_of (BehindTick a) s = among (classes.AttributeName ∷ mark marks.Open ∷ []) s
 first_of (BehindAttribute a n) s = among name_suffixes s
-first_of (Values a n values) s = among (mark marks.Comma ∷ mark marks.Close ∷ []) s
-first_of (Arguments a arguments) s = among (mark marks.Comma ∷ mark marks.Close ∷ []) s
+first_of (Values first n values) s = among (mark marks.Comma ∷ mark marks.Close ∷ []) s
+first_of (Arguments first arguments) s = among (mark marks.Comma ∷ mark marks.Close ∷ []) s
 first_of (SubtypeRange a) s = is_in (word words.Range) s
 first_of p s = among simples s
 
@@ -323,8 +327,10 @@ more (Suffixes may_open a) s = among name_suffixes s
 more (MayOpen may_open a) s = among name_suffixes s
 more (BehindTick a) s = among name_suffixes s
 more (BehindAttribute a n) s = among name_suffixes s
-more (Values a n values) s = false
-more (Arguments a arguments) s = false
+more (ValuesFrom a n) s = false
+more (Values first n values) s = false
+more (ArgumentsFrom a) s = false
+more (Arguments first arguments) s = false
 more Argument s = among (mark marks.Arrow ∷ more_of_expr) s
 more Drange s = among (mark marks.Dots ∷ word words.Range ∷ more_of_simple) s
 more (SubtypeRange a) s = among (word words.Range ∷ more_of_simple) s
