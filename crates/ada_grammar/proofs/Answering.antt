@@ -64,7 +64,7 @@ hits {part} ts cursor middle i s check h = record {
   bars = subst (λ (z : ℕ). Bars part (point ts cursor) (drop z ts)) (sym h.place) (stopped s h.stops check);
 }
 
-misses_here : {part : Part} (ts : List Lexeme) (cursor middle : Cursor) {b : Body} (c : Class) (e : Fault) → middle.at ≤ length ts
+pub misses_here : {part : Part} (ts : List Lexeme) (cursor middle : Cursor) {b : Body} (c : Class) (e : Fault) → middle.at ≤ length ts
     → Awaits part (point ts cursor) (point ts middle) b → is_never (without c b) ≡ true → ((t : Lexeme) → inhabited (after c t b) ≡ true) → Misses c ts middle e → Fails part ts cursor e
 misses_here ts cursor middle c faults.NoMemory ends s none check h = tt
 misses_here {part} ts cursor middle {b} c (faults.Syntax i) ends s none check h = record {
@@ -80,7 +80,7 @@ pub misses : {part : Part} (ts : List Lexeme) (cursor middle : Cursor) {b : Body
 misses ts cursor middle c built e (Ok x) ends s none check h is = absurd is
 misses {part} ts cursor middle c built e (Err z) ends s none check h is = subst (λ (z : Fault). Fails part ts cursor z) (sym is) (misses_here ts cursor middle c e ends s none check h)
 
-passes_here : {part : Part} (ts : List Lexeme) (cursor middle : Cursor) {b : Body} (c : Class) (e : Fault)
+pub passes_here : {part : Part} (ts : List Lexeme) (cursor middle : Cursor) {b : Body} (c : Class) (e : Fault)
     → Awaits part (point ts cursor) (point ts middle) b → ((t : Lexeme) → inhabited (after c t b) ≡ true) → Passes c ts middle e → Fails part ts cursor e
 passes_here ts cursor middle c faults.NoMemory s check h = absurd h
 passes_here ts cursor middle c (faults.Syntax i) s check h = absurd h

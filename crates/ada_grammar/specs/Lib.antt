@@ -6,3 +6,5 @@ pub mod Built
 pub mod Grammar
 pub mod Reading
 pub mod Taking
+pub mod Refusals
+pub mod Answer

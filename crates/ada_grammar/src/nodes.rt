@@ -131,7 +131,7 @@ pub fn number_of(kind: TokenKind) -> u128
 }
 
 /// How a token is written; of places that the source does not have, nothing.
-fn text<'a>(tokens: &'a Tokens, token: Token) -> &'a [u8]
+pub fn text<'a>(tokens: &'a Tokens, token: Token) -> &'a [u8]
     ensures { result.now ≡ text_of tokens.now.source token }
 {
     let source = tokens.source.as_slice();
