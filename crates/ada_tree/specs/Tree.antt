@@ -1,5 +1,5 @@
 -- How the nodes of trees stand to each other.
-use Rattle.std.specs.Prelude.{◌≡◌, ◌<◌, ℕ, List, All, Some, length, slice_get}
+use Rattle.std.specs.Prelude.{◌≡◌, ◌<◌, ℕ, List, [], All, Some, length, slice_get}
 use Rattle.spark_base.specs.declared.numbers.AspectNo.{AspectNo}
 use Rattle.spark_base.specs.declared.numbers.DeclNo.{DeclNo}
 use Rattle.spark_base.specs.declared.numbers.ExprNo.{ExprNo}
@@ -23,5 +23,5 @@ pub record IsOrdered (u : Units) : Type 0 where
   pub units : (n : ℕ) (x : TheUnit) → slice_get u.units n ≡ Some x → AreBelow (length u.exprs) (length u.stmts) (length u.decls) (length u.aspects) x.exprs x.stmts x.decls x.aspects
   pub decls : (n : ℕ) (x : DeclNode) → slice_get u.decls n ≡ Some x → AreBelow (length u.exprs) (length u.stmts) n (length u.aspects) x.exprs x.stmts x.decls x.aspects
   pub stmts : (n : ℕ) (x : StmtNode) → slice_get u.stmts n ≡ Some x → AreBelow (length u.exprs) n (length u.decls) (length u.aspects) x.exprs x.stmts x.decls x.aspects
-  pub exprs : (n : ℕ) (x : ExprNode) → slice_get u.exprs n ≡ Some x → AreBelow n (length u.stmts) (length u.decls) (length u.aspects) x.exprs x.stmts x.decls x.aspects
+  pub exprs : (n : ℕ) (x : ExprNode) → slice_get u.exprs n ≡ Some x → AreBelow n (length u.stmts) (length u.decls) (length u.aspects) x.exprs [] [] []
   pub aspects : (n : ℕ) (x : AspectNode) → slice_get u.aspects n ≡ Some x → AreBelow (length u.exprs) (length u.stmts) (length u.decls) n x.exprs x.stmts x.decls x.aspects

@@ -1,7 +1,8 @@
-use spark_base::{AspectNo, DeclNo, ExprNo, Items, Name, Pos, Span, StmtNo};
+use spark_base::{ExprNo, Items, Name, Pos, Span};
 
-/// An expression, or what stands in one place with expressions: a mark, a range, a choice, an argument, an end name. The
-/// item of an aspect is the node of its name. Each of the lists has the children of its type, in the order of the source.
+/// An expression, or what stands in one place with expressions: a range, a choice, an argument, an end name. The item of an
+/// aspect is the node of its name, and so is a mark, which is a name of words and points alone. Its children are
+/// expressions, in the order of the source.
 #[derive(Debug, Drop)]
 pub struct ExprNode {
     /// Where the name stands, if the node has one: of `P.N` and `P'N` the `N` alone, since the prefix is a node of its own.
@@ -11,9 +12,6 @@ pub struct ExprNode {
     /// What the node uses: of several parted by points the last.
     pub name: Option<Name>,
     pub exprs: Items<ExprNo>,
-    pub stmts: Items<StmtNo>,
-    pub decls: Items<DeclNo>,
-    pub aspects: Items<AspectNo>,
 }
 
 /// An operator between truth values, or between modular numbers bit by bit.
@@ -53,7 +51,7 @@ pub enum MultiplyingOperator {
     Rem,
 }
 
-/// What an expression is; its children are expressions alone. A chain of operators groups from the left: in `A - B - C`
+/// What an expression is. A chain of operators groups from the left: in `A - B - C`
 /// the left operand is `A - B`. A `place` is the operator's.
 #[derive(Clone, Copy, Debug)]
 pub enum ExprKind {
@@ -127,13 +125,9 @@ pub enum ExprKind {
     },
     /// `P'(A)`: the prefix, and an aggregate or an expression within its parentheses.
     Qualified,
-    /// `N => A` or `A` among arguments: the value. The name is the formal's.
+    /// `N => A` or `A` among arguments: the name of the formal, and the value.
     Argument {
         has_formal: bool,
-    },
-    /// The name of a type or subtype, `P.N` or `N`: the prefix.
-    Mark {
-        has_prefix: bool,
     },
     /// `M range L .. H`: the mark, and the low bound and the high bound.
     SubtypeIndication {
@@ -143,7 +137,7 @@ pub enum ExprKind {
     SubtypeRange,
     /// A discrete range `L .. H`: the low bound and the high bound.
     BoundsRange,
-    /// A discrete range `P'Range`: the prefix.
+    /// A discrete range `P'Range`: the attribute.
     AttributeRange,
     /// A choice that is an expression: this.
     ValueChoice,
