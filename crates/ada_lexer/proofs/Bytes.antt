@@ -36,10 +36,6 @@ pub digit-not_letter : (b : ℕ) → is_digit 10 b ≡ true → is_letter b ≡ 
 unfolding is_digit is_letter
 digit-not_letter b h = grind (arith, nat_tests)
 
-pub letter-alnum : (b : ℕ) → is_letter b ≡ true → is_digit 36 b ≡ true
-unfolding is_digit is_letter
-letter-alnum b h = grind (arith, nat_tests)
-
 pub differs : (a b : ℕ) → (a ≡ b → ⊥) → nat_eq a b ≡ false
 differs a b h = grind (arith, nat_tests)
 

@@ -11,10 +11,6 @@ use Rattle.ada_lexer.specs.declared.piece.Fault.{Fault}
 use Rattle.ada_lexer.specs.declared.piece.Piece.{Piece}
 use Rattle.ada_lexer.specs.declared.refusal.Refusal.{Refusal}
 
-cut-nil : (file : FileNo) (source : List ℕ) (at left : ℕ) (ticked : Bool) → cut_from file source at left ticked [] ≡ Ok []
-cut-nil file source at zero ticked = refl
-cut-nil file source at (suc left) ticked = refl
-
 -- the rest of a piece is passed over
 cut-skip : (file : FileNo) (source : List ℕ) (at n : ℕ) (ticked : Bool) (xs : List ℕ) → cut_from file source at n ticked xs ≡ cut_from file source (at + n) 0 ticked (drop n xs)
 cut-skip file source at zero ticked xs = let e : at ≡ at + 0 = omega arith in ap (λ k. cut_from file source k 0 ticked xs) e

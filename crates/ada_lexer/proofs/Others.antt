@@ -38,9 +38,6 @@ judged-other : (n : ℕ) (b : ℕ) (s rest : List ℕ) → Other b → comment (
 unfolding judged
 judged-other n b s rest o h = rw (space-not b s o.white, h, word-not b s o.letter, number-not b s o.digit, text-not b s o.quote) refl
 
-none_here : (b : ℕ) (bs : List ℕ) → cut_here (b ∷ bs) None ≡ one_mark b None
-none_here b bs = refl
-
 -- one byte, by the mark that it is
 one_here : (b : ℕ) (bs : List ℕ) (m : Option Mark) → Other b → single b ≡ m → cut_here (b ∷ bs) (one_more false (one_more (is_some m) None)) ≡ one_mark b m
 one_here b bs None o e = refl
@@ -66,10 +63,6 @@ last_shown true b c d [] = refl
 last_shown true b c d (e ∷ s) = refl
 last_shown false b c d [] = elim ((nat_eq b 39 && is_printable c) && nat_eq d 39) as (λ t. (t || false) ≡ t) [ true ↦ refl | false ↦ refl ]
 last_shown false b c d (e ∷ s) = refl
-
-or-none : (x : Bool) → (x || false) ≡ x
-or-none true = refl
-or-none false = refl
 
 last_longest : (ticked : Bool) (b c d : ℕ) (bs : List ℕ) → longest (λ s. shown ticked (b ∷ c ∷ d ∷ s)) bs ≡ one_more (ticked_byte ticked b c d) None
 last_longest ticked b c d [] = ap (λ t. if t then Some 0 else None) (last_shown ticked b c d []) ∙ (elim (ticked_byte ticked b c d) as (λ t. (if t then Some 0 else None) ≡ one_more t None) [ true ↦ refl | false ↦ refl ])
@@ -123,10 +116,6 @@ allowed-comment ticked s =
     only_comment (space (45 ∷ 45 ∷ s)) (comment (45 ∷ 45 ∷ s)) (word (45 ∷ 45 ∷ s)) (number (45 ∷ 45 ∷ s)) (text (45 ∷ 45 ∷ s)) (if ticked then false else character (45 ∷ 45 ∷ s)) (is_some (mark_of (45 ∷ 45 ∷ s)))
     refl (word-not 45 (45 ∷ s) (not-letter 45 (omega arith))) (number-not 45 (45 ∷ s) (not-digit 45 (omega arith))) (text-not 45 (45 ∷ s) (omega arith))
     (ticked-not ticked _ (character-not 45 (45 ∷ s) (omega arith))) (comment-mark s)
-
-over_mark : (c : Bool) (n : ℕ) → one_more c (Some n) ≡ Some (suc n)
-over_mark true n = refl
-over_mark false n = refl
 
 pub at_comment : (ticked : Bool) (bs : List ℕ) → piece_at ticked (45 ∷ 45 ∷ bs) ≡ piece (suc (suc (run is_inner bs))) None
 unfolding piece_at is_white

@@ -1,10 +1,10 @@
 -- What is unfinished, as nodes are added.
-use Rattle.std.proofs.Common.{◌≡◌, ℕ, ◌<◌, ◌≤◌, List, [], ◌∷◌, ◌++◌, Some, None, IfSome, Option, length, map, refl, ap, sym, subst, ◌∙◌, arith}
+use Rattle.std.proofs.Common.{◌≡◌, ◌<◌, List, [], ◌∷◌, ◌++◌, Some, None, IfSome, Option, length, map, refl, ap, sym, subst, ◌∙◌, arith}
 use Rattle.std.specs.Prelude.{drop}
 use Rattle.std.proofs.lemmas.List.{map-append}
 use Rattle.spark_base.specs.declared.numbers.StmtNo.{StmtNo}
 use Rattle.core_form.specs.Added.{AreFineNodes, KeepsTrees}
-use Rattle.core_form.specs.Code.{Expr, Code, Skip, Branch, Then, code_of, expr_of}
+use Rattle.core_form.specs.Code.{Expr, Code, Skip, Then, code_of, expr_of}
 use Rattle.core_form.specs.declared.build.Nodes.{Nodes}
 use Rattle.first_lower.specs.Known.{Each}
 use Rattle.first_lower.specs.Levels.{Level, IsWithin, OpenWithin, Reaches, StmtsWithin, closed, codes_of, ended, level_of, levels_of, main_of, turned}

@@ -1,7 +1,6 @@
-use Rattle.std.proofs.Common.{◌≡◌, ◌∙◌, List, [], ap, drop, sym}
+use Rattle.std.proofs.Common.{◌≡◌, ◌∙◌, [], ap, drop, sym}
 use Rattle.std.proofs.lemmas.List.{drop_all}
 use Rattle.core_form.specs.Code.{code_of}
-use Rattle.first_path.specs.declared.source.Line.{Line}
 use Rattle.first_lower.specs.Levels.{codes_of, ends, levels_of}
 use Rattle.first_lower.proofs.Levels.{chain_whole}
 use Rattle.first_lower.proofs.code.add_lines.Goals as goal
