@@ -22,7 +22,7 @@ lexemes_length tokens = map_length (lexeme tokens.source) tokens.list
 -- the token at a place begins what is left there
 pub ahead : (tokens : Tokens) (list : List Token) (at : ℕ) (t : Token) → list ≡ tokens.list → at < length list → t ≡ get_or list at t → drop at (lexemes tokens) ≡ lexeme tokens.source t ∷ drop (at + 1) (lexemes tokens)
 ahead tokens list at t same h e =
-  subst (λ (z : List Token). drop at (map (lexeme tokens.source) z) ≡ lexeme tokens.source t ∷ drop (at + 1) (map (lexeme tokens.source) z)) same
+    subst (λ (z : List Token). drop at (map (lexeme tokens.source) z) ≡ lexeme tokens.source t ∷ drop (at + 1) (map (lexeme tokens.source) z)) same
     (ahead_in (lexeme tokens.source) list at t h e ∙ ap (λ (n : ℕ). lexeme tokens.source t ∷ drop n (map (lexeme tokens.source) list)) (sym (add-one at)))
 
 pub within_lexemes : (tokens : Tokens) (list : List Token) (at : ℕ) → list ≡ tokens.list → at < length list → at < length (lexemes tokens)

@@ -159,7 +159,7 @@ empty : {b : Body} {y : Phrase} {w : List Lexeme} → Fits b y w → w ≡ [] �
 empty gives e = inl refl
 empty (take is h) e = cc
 empty (call {p} {rest = k} {a} {y} {u} {v} h g) e =
-  has_each (λ a. empties (k a)) y a (empties_of p) (subst (λ (z : List Phrase). Has a z) (empties_table p) (empty h (nil_left u v e))) (empty g (nil_right u v e))
+    has_each (λ a. empties (k a)) y a (empties_of p) (subst (λ (z : List Phrase). Has a z) (empties_table p) (empty h (nil_left u v e))) (empty g (nil_right u v e))
 empty (rest {p} {y} h) e = subst (λ (z : List Phrase). Has y z) (empties_table p) (empty h e)
 empty (left {b} {c} {y} h) e = has_left y (empties b) (empties c) (empty h e)
 empty (right {b} {c} {y} h) e = has_right y (empties b) (empties c) (empty h e)
@@ -176,8 +176,8 @@ Starts b (t ∷ w) = first b (sort t) ≡ true
 -- the second part begins where the first has no tokens
 starts_second : (p : Part) (k : Phrase → Body) (a : Phrase) (u v : List Lexeme) → Has a (empties_of p) → u ≡ [] → Starts (k a) v → (t : Lexeme) (w : List Lexeme) → u ++ v ≡ t ∷ w → first (Call p k) (sort t) ≡ true
 starts_second p k a u v h nil s t w e =
-  let same : v ≡ t ∷ w = subst (λ (z : List Lexeme). z ++ v ≡ t ∷ w) nil e in
-  or_right (first_of p (sort t)) (any (λ a. first (k a) (sort t)) (empties_of p)) (any_has (λ a. first (k a) (sort t)) a (empties_of p) h (subst (λ (z : List Lexeme). Starts (k a) z) same s))
+    let same : v ≡ t ∷ w = subst (λ (z : List Lexeme). z ++ v ≡ t ∷ w) nil e in
+    or_right (first_of p (sort t)) (any (λ a. first (k a) (sort t)) (empties_of p)) (any_has (λ a. first (k a) (sort t)) a (empties_of p) h (subst (λ (z : List Lexeme). Starts (k a) z) same s))
 
 starts_call : (p : Part) (k : Phrase → Body) (a y : Phrase) (u v : List Lexeme) → Fits (rule p) a u → Fits (k a) y v → Starts (rule p) u → Starts (k a) v → Starts (Call p k) (u ++ v)
 starts_call p k a y [] [] h g s r = some_has y (empties (Call p k)) (empty (call {p = p} {rest = k} h g) refl)

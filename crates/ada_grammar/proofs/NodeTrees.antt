@@ -18,8 +18,8 @@ trees_from_length built (n ∷ ns) = omega (arith, trees_from_length (built ++ t
 trees_from_more : (built : List Tree) (ns : List ExprNode) → (further : List Tree) × (trees_from built ns ≡ built ++ further)
 trees_from_more built [] = ([], sym (append-nil built))
 trees_from_more built (n ∷ ns) =
-  let i = trees_from_more (built ++ tree_of built n ∷ []) ns in
-  (tree_of built n ∷ i.0, i.1 ∙ append_assoc built (tree_of built n ∷ []) i.0)
+    let i = trees_from_more (built ++ tree_of built n ∷ []) ns in
+    (tree_of built n ∷ i.0, i.1 ∙ append_assoc built (tree_of built n ∷ []) i.0)
 
 -- as many trees as nodes
 pub trees_length : (ns : List ExprNode) → length (trees ns) ≡ length ns
@@ -33,8 +33,8 @@ trees_more ns ms = let i = trees_from_more (trees_from [] ns) ms in (i.0, trees_
 -- a tree that was built stays
 pub stays : {old new : List ExprNode} (n : ExprNo) → Extends old new → n.0 < length (trees old) → tree_at (trees new) n ≡ tree_at (trees old) n
 stays {old} {new} n g within =
-  let i = trees_more old g.further in
-  ap (λ (z : List ExprNode). tree_at (trees z) n) g.joins ∙ (ap (λ (z : List Tree). tree_at z n) i.1 ∙ get_or-append (trees old) i.0 nothing n.0 within)
+    let i = trees_more old g.further in
+    ap (λ (z : List ExprNode). tree_at (trees z) n) g.joins ∙ (ap (λ (z : List Tree). tree_at z n) i.1 ∙ get_or-append (trees old) i.0 nothing n.0 within)
 
 pub longer : {old new : List ExprNode} → Extends old new → length (trees old) ≤ length (trees new)
 longer {old} {new} g = omega (arith, trees_length old, trees_length new, ap (λ (z : List ExprNode). length z) g.joins, length-append old g.further)
@@ -71,10 +71,10 @@ trees_last ns n = trees_from_append [] ns (n ∷ [])
 -- the tree of the node that was added
 pub added_tree : {old new : List ExprNode} {n : ExprNode} {number : ExprNo} → Adds old new n number → tree_at (trees new) number ≡ tree_of (trees old) n
 added_tree {old} {new} {n} {number} a =
-  ap (λ (z : List ExprNode). tree_at (trees z) number) a.joins
-  ∙ (ap (λ (z : List Tree). tree_at z number) (trees_last old n)
-  ∙ (ap (λ (z : ℕ). get_or (trees old ++ tree_of (trees old) n ∷ []) z nothing) (a.place ∙ sym (trees_length old))
-  ∙ get_or-append_seam (trees old) (tree_of (trees old) n) [] nothing))
+    ap (λ (z : List ExprNode). tree_at (trees z) number) a.joins
+    ∙ (ap (λ (z : List Tree). tree_at z number) (trees_last old n)
+    ∙ (ap (λ (z : ℕ). get_or (trees old ++ tree_of (trees old) n ∷ []) z nothing) (a.place ∙ sym (trees_length old))
+    ∙ get_or-append_seam (trees old) (tree_of (trees old) n) [] nothing))
 
 pub added_within : {old new : List ExprNode} {n : ExprNode} {number : ExprNo} → Adds old new n number → number.0 < length (trees new)
 added_within {old} {new} {n} {number} a = omega (arith, a.place, trees_length new, ap (λ (z : List ExprNode). length z) a.joins, length-append old (n ∷ []))
@@ -89,7 +89,7 @@ below_as m ns ms e h = subst (λ (z : List ExprNo). AreBelow m z) (sym e) h
 pub trees_at_stay : {old new : List ExprNode} (ns : List ExprNo) → Extends old new → AreBelow (length (trees old)) ns → trees_at (trees new) ns ≡ trees_at (trees old) ns
 trees_at_stay [] g below = refl
 trees_at_stay {old} {new} (n ∷ ns) g below =
-  ap (λ (z : Tree). z ∷ trees_at (trees new) ns) (stays n g below.0) ∙ ap (λ (z : List Tree). tree_at (trees old) n ∷ z) (trees_at_stay ns g below.1)
+    ap (λ (z : Tree). z ∷ trees_at (trees new) ns) (stays n g below.0) ∙ ap (λ (z : List Tree). tree_at (trees old) n ∷ z) (trees_at_stay ns g below.1)
 
 pub trees_at_more : (built : List Tree) (ns : List ExprNo) (n : ExprNo) → trees_at built (ns ++ n ∷ []) ≡ trees_at built ns ++ tree_at built n ∷ []
 trees_at_more built [] n = refl
@@ -103,7 +103,7 @@ below_more (m ∷ ns) n below h g = (omega (arith, below.0, h), below_more ns n 
 pub items_more : {old new : List ExprNode} (ns : List ExprNo) (n : ExprNo) {ms : List ExprNo} → ms ≡ ns ++ n ∷ [] → Extends old new → AreBelow (length (trees old)) ns
     → trees_at (trees new) ms ≡ trees_at (trees old) ns ++ tree_at (trees new) n ∷ []
 items_more {old} {new} ns n {ms} e g below =
-  ap (λ (z : List ExprNo). trees_at (trees new) z) e ∙ (trees_at_more (trees new) ns n ∙ ap (λ (z : List Tree). z ++ tree_at (trees new) n ∷ []) (trees_at_stay ns g below))
+    ap (λ (z : List ExprNo). trees_at (trees new) z) e ∙ (trees_at_more (trees new) ns n ∙ ap (λ (z : List Tree). z ++ tree_at (trees new) n ∷ []) (trees_at_stay ns g below))
 
 pub items_below : {old new : List ExprNode} (ns : List ExprNo) (n : ExprNo) {ms : List ExprNo} → ms ≡ ns ++ n ∷ [] → Extends old new → AreBelow (length (trees old)) ns → n.0 < length (trees new)
     → AreBelow (length (trees new)) ms

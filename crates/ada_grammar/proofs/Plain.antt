@@ -1,10 +1,9 @@
 -- The answer in plain words, from what a reader answers.
-use Rattle.std.proofs.Common.{◌≡◌, ℕ, List, [], ◌∷◌, ◌++◌, drop, refl, sym, ◌∙◌, ap, subst, append_assoc, append-nil, Some}
-use Rattle.ada_grammar.specs.declared.tokens.Nesting.{Nesting}
+use Rattle.std.proofs.Common.{◌≡◌, List, [], ◌∷◌, ◌++◌, refl, sym, ◌∙◌, ap, subst, append_assoc, append-nil}
 use Rattle.ada_grammar.specs.Lexemes.{Lexeme}
 use Rattle.ada_grammar.specs.Phrases.{Phrase}
 use Rattle.ada_grammar.specs.Grammar.{Part, Body, Never, Gives, Fits, gives, Spells}
-use Rattle.ada_grammar.specs.Reading.{Point, At, Awaits, Reads, Viable}
+use Rattle.ada_grammar.specs.Reading.{Point, At, Awaits, Reads}
 use Rattle.ada_grammar.specs.Answer.{Longest, IsRead, IsRefused}
 
 -- where the rest takes no token, the front is the longest
@@ -13,9 +12,9 @@ front {part} {p} {q} {b} a ends = record {
   splits = a.splits;
   viable = a.viable;
   longest = λ t further e h.
-    let x = a.only h.0 ((a.word ++ (t ∷ [])) ++ h.1) [] (t ∷ h.1) (subst (λ (z : List Lexeme). At z (t ∷ h.1)) (sym e) refl) (append-nil ((a.word ++ (t ∷ [])) ++ h.1) ∙ append_assoc a.word (t ∷ []) h.1) tt h.2 in
-    let none = ends h.0 x.0 x.3 in
-    let long : [] ≡ t ∷ h.1 = ap (λ (z : List Lexeme). z ++ []) (sym none) ∙ x.2 in (cc);
+      let x = a.only h.0 ((a.word ++ (t ∷ [])) ++ h.1) [] (t ∷ h.1) (subst (λ (z : List Lexeme). At z (t ∷ h.1)) (sym e) refl) (append-nil ((a.word ++ (t ∷ [])) ++ h.1) ∙ append_assoc a.word (t ∷ []) h.1) tt h.2 in
+      let none = ends h.0 x.0 x.3 in
+      let long : [] ≡ t ∷ h.1 = ap (λ (z : List Lexeme). z ++ []) (sym none) ∙ x.2 in (cc);
   ends = q.level;
   within = a.walked;
 }

@@ -52,8 +52,8 @@ choose {part} {p} {q} {b} {c} a into back = record {
   viable = a.viable;
   made = λ y v h. a.made y v (into y v h);
   only = λ y s r w at e free h.
-    let x = a.only y s r w at e free h in
-    (x.0, x.1, x.2, back y x.0 r (subst (λ (z : List Lexeme). At q.rest z) (sym x.2) at) free x.3);
+      let x = a.only y s r w at e free h in
+      (x.0, x.1, x.2, back y x.0 r (subst (λ (z : List Lexeme). At q.rest z) (sym x.2) at) free x.3);
 }
 
 -- the first token decides what the rest is, and is read
@@ -68,10 +68,10 @@ next {part} {p} {q} {z} {t} {b} {c} a joins stepped some into back = record {
   viable = (some.0, some.1, subst (λ (x : List Lexeme). Spells part some.0 x) (sym (append_assoc a.word (t ∷ []) some.1)) (a.made some.0 (t ∷ some.1) (into some.0 some.1 some.2)));
   made = λ y v h. subst (λ (x : List Lexeme). Spells part y x) (sym (append_assoc a.word (t ∷ []) v)) (a.made y (t ∷ v) (into y v h));
   only = λ y s r w at e free h.
-    let x = a.only y s r (t ∷ w) (subst (λ (k : List Lexeme). At k (t ∷ w)) (sym joins) refl) (e ∙ append_assoc a.word (t ∷ []) w) free h in
-    let k = back y x.0 r w x.2 free x.3 in
-    let cut : t ∷ (k.0 ++ r) ≡ t ∷ w = sym (ap (λ (n : List Lexeme). n ++ r) k.1) ∙ x.2 in
-    (k.0, x.1 ∙ (ap (λ (n : List Lexeme). a.word ++ n) k.1 ∙ sym (append_assoc a.word (t ∷ []) k.0)), (cc), k.2);
+      let x = a.only y s r (t ∷ w) (subst (λ (k : List Lexeme). At k (t ∷ w)) (sym joins) refl) (e ∙ append_assoc a.word (t ∷ []) w) free h in
+      let k = back y x.0 r w x.2 free x.3 in
+      let cut : t ∷ (k.0 ++ r) ≡ t ∷ w = sym (ap (λ (n : List Lexeme). n ++ r) k.1) ∙ x.2 in
+      (k.0, x.1 ∙ (ap (λ (n : List Lexeme). a.word ++ n) k.1 ∙ sym (append_assoc a.word (t ∷ []) k.0)), (cc), k.2);
 }
 
 -- one of two bodies
@@ -183,21 +183,21 @@ true_false false e f = cc
 -- where the body is closed to the class, nothing that fits it stands before such a token
 closed_out : (part : Part) (c : Class) (t : Lexeme) (b : Body) (v r w : List Lexeme) → is_in c (sort t) ≡ true → closed part c b ≡ true → v ++ r ≡ t ∷ w → Free (more part) r → Starts b v → ⊥
 closed_out part c t b [] r w is m e free s =
-  let here = holds (is_in c (sort t)) (not (first b (sort t)) && only_if (null b) (more part (sort t))) (by_sort (λ s. only_if (is_in c s) (not (first b s) && only_if (null b) (more part s))) m (sort t)) is in
-  let goes : more part (sort t) ≡ true = holds (null b) (more part (sort t)) (and_right (not (first b (sort t))) (only_if (null b) (more part (sort t))) here) s in
-  let stops : more part (sort t) ≡ false = subst (λ (z : List Lexeme). Free (more part) z) e free in
-  true_false (more part (sort t)) goes stops
+    let here = holds (is_in c (sort t)) (not (first b (sort t)) && only_if (null b) (more part (sort t))) (by_sort (λ s. only_if (is_in c s) (not (first b s) && only_if (null b) (more part s))) m (sort t)) is in
+    let goes : more part (sort t) ≡ true = holds (null b) (more part (sort t)) (and_right (not (first b (sort t))) (only_if (null b) (more part (sort t))) here) s in
+    let stops : more part (sort t) ≡ false = subst (λ (z : List Lexeme). Free (more part) z) e free in
+    true_false (more part (sort t)) goes stops
 closed_out part c t b (x ∷ v) r w is m e free s =
-  let same : x ≡ t = cc in
-  let here = holds (is_in c (sort t)) (not (first b (sort t)) && only_if (null b) (more part (sort t))) (by_sort (λ s. only_if (is_in c s) (not (first b s) && only_if (null b) (more part s))) m (sort t)) is in
-  not_both (first b (sort t)) (only_if (null b) (more part (sort t))) here (subst (λ (z : Lexeme). first b (sort z) ≡ true) same s)
+    let same : x ≡ t = cc in
+    let here = holds (is_in c (sort t)) (not (first b (sort t)) && only_if (null b) (more part (sort t))) (by_sort (λ s. only_if (is_in c s) (not (first b s) && only_if (null b) (more part s))) m (sort t)) is in
+    not_both (first b (sort t)) (only_if (null b) (more part (sort t))) here (subst (λ (z : Lexeme). first b (sort z) ≡ true) same s)
 
 -- the token in front of a take
 taken : (part : Part) (c : Class) (t : Lexeme) (x : Class) (k : Lexeme → Body) (m : Bool) {y : Phrase} (u : Lexeme) (v r w : List Lexeme) → m ≡ same_class c x → is_in c (sort t) ≡ true → (m || closed part c (Take x k)) ≡ true → (u ∷ v) ++ r ≡ t ∷ w → Free (more part) r
     → is_in x (sort u) ≡ true → Fits (k u) y v → (z : List Lexeme) × (u ∷ v ≡ t ∷ z) × Fits (if m then k t else Never) y z
 taken part c t x k true {y} u v r w i is m e free found h =
-  let same : u ≡ t = cc in
-  (v, ap (λ (z : Lexeme). z ∷ v) same, subst (λ (z : Lexeme). Fits (k z) y v) same h)
+    let same : u ≡ t = cc in
+    (v, ap (λ (z : Lexeme). z ∷ v) same, subst (λ (z : Lexeme). Fits (k z) y v) same h)
 taken part c t x k false {y} u v r w i is m e free found h = absurd (closed_out part c t (Take x k) (u ∷ v) r w is m e free found)
 
 -- behind the token
@@ -208,35 +208,35 @@ behind part c t r w is m e free (take {c = x} {rest = k} {t = u} {y} {w = v} fou
 behind part c t r w is m e free (call {p} {rest = k} {a} {y} {u} {v} h g) = absurd (closed_out part c t (Call p k) (u ++ v) r w is m e free (starts (call {p = p} {rest = k} {v = v} h g)))
 behind part c t r w is m e free (rest {p} {y} {w = v} h) = absurd (closed_out part c t (Rest p) v r w is m e free (starts (rest {p = p} h)))
 behind part c t r w is m e free (left {b} {c = d} h) =
-  let z = behind part c t r w is (and_left (ready part c b) (ready part c d) m) e free h in (z.0, z.1, choice_left (after c t b) (after c t d) z.2)
+    let z = behind part c t r w is (and_left (ready part c b) (ready part c d) m) e free h in (z.0, z.1, choice_left (after c t b) (after c t d) z.2)
 behind part c t r w is m e free (right {b} {c = d} h) =
-  let z = behind part c t r w is (and_right (ready part c b) (ready part c d) m) e free h in (z.0, z.1, choice_right (after c t b) (after c t d) z.2)
+    let z = behind part c t r w is (and_right (ready part c b) (ready part c d) m) e free h in (z.0, z.1, choice_right (after c t b) (after c t d) z.2)
 behind part c t r w is m e free (yes {b} {c = d} h) =
-  let z = behind part c t r w is (and_left (ready part c b) (ready part c d) m) e free h in (z.0, z.1, yes z.2)
+    let z = behind part c t r w is (and_left (ready part c b) (ready part c d) m) e free h in (z.0, z.1, yes z.2)
 behind part c t r w is m e free (no {b} {c = d} h) =
-  let z = behind part c t r w is (and_right (ready part c b) (ready part c d) m) e free h in (z.0, z.1, no z.2)
+    let z = behind part c t r w is (and_right (ready part c b) (ready part c d) m) e free h in (z.0, z.1, no z.2)
 
 -- the token that was looked for is there, and is read
 pub seen : {part : Part} {p q z : Point} {b : Body} {c : Class} {t : Lexeme} → Awaits part p q b → Takes c t q z → (ready part c b && inhabited (after c t b)) ≡ true → Awaits part p z (after c t b)
 seen {part} {p} {q} {z} {b} {c} {t} a e m = next a e.begins.joins e.stepped (sentence (after c t b) (and_right (ready part c b) (inhabited (after c t b)) m))
-  (λ y v h. into_after c t b e.begins.sort h)
-  (λ y v r w is free h. behind part c t r w e.begins.sort (and_left (ready part c b) (inhabited (after c t b)) m) is free h)
+    (λ y v h. into_after c t b e.begins.sort h)
+    (λ y v r w is free h. behind part c t r w e.begins.sort (and_left (ready part c b) (inhabited (after c t b)) m) is free h)
 
 -- the token that was looked for is there, and passes a limit
 pub stopped : {part : Part} {p q : Point} {b : Body} {c : Class} → Awaits part p q b → Stops c q → ((t : Lexeme) → inhabited (after c t b) ≡ true) → Bars part p q.rest
 stopped {part} {p} {q} {b} {c} a e m =
-  let some = sentence (after c e.token b) (m e.token) in
-  record {
-    word = a.word;
-    token = e.token;
-    further = e.further;
-    joins = e.begins.joins;
-    splits = a.splits;
-    viable = (some.0, some.1, subst (λ (x : List Lexeme). Spells part some.0 x) (sym (append_assoc a.word (e.token ∷ []) some.1)) (a.made some.0 (e.token ∷ some.1) (into_after c e.token b e.begins.sort some.2)));
-    level = q.level;
-    walked = a.walked;
-    passes = e.stepped;
-  }
+    let some = sentence (after c e.token b) (m e.token) in
+    record {
+      word = a.word;
+      token = e.token;
+      further = e.further;
+      joins = e.begins.joins;
+      splits = a.splits;
+      viable = (some.0, some.1, subst (λ (x : List Lexeme). Spells part some.0 x) (sym (append_assoc a.word (e.token ∷ []) some.1)) (a.made some.0 (e.token ∷ some.1) (into_after c e.token b e.begins.sort some.2)));
+      level = q.level;
+      walked = a.walked;
+      passes = e.stepped;
+    }
 
 -- a body that surely begins with a token of the class
 abbrev pub always : Class → Body → Bool
@@ -262,9 +262,9 @@ not_null false b m h = cc
 absent : (c : Class) (b : Body) (r v q : List Lexeme) → always c b ≡ true → At r (v ++ q) → NotFirst c r → Starts b v → ⊥
 absent c b r [] q m at other s = not_null (null b) (all_sorts (λ s. only_if (first b s) (is_in c s))) m s
 absent c b r (t ∷ v) q m at other s =
-  let z = at_head r (v ++ q) at in
-  let is = holds (first b (sort t)) (is_in c (sort t)) (by_sort (λ s. only_if (first b s) (is_in c s)) (and_right (not (null b)) (all_sorts (λ s. only_if (first b s) (is_in c s))) m) (sort t)) s in
-  true_false (is_in c (sort t)) is (other.other t z.0 z.1)
+    let z = at_head r (v ++ q) at in
+    let is = holds (first b (sort t)) (is_in c (sort t)) (by_sort (λ s. only_if (first b s) (is_in c s)) (and_right (not (null b)) (all_sorts (λ s. only_if (first b s) (is_in c s))) m) (sort t)) s in
+    true_false (is_in c (sort t)) is (other.other t z.0 z.1)
 
 stays : (c : Class) (b : Body) (m : Bool) {y : Phrase} (r v q : List Lexeme) → (m ≡ true → always c b ≡ true) → At r (v ++ q) → NotFirst c r → Starts b v → Fits b y v → Fits (unless m b) y v
 stays c b true r v q m at other s h = absurd (absent c b r v q (m refl) at other s)
@@ -274,11 +274,11 @@ still : (c : Class) (r q : List Lexeme) {b : Body} {y : Phrase} {v : List Lexeme
 still c r q at other gives = gives
 still c r q at other (take {c = x} {rest = k} {t} {y} {w} is h) = stays c (Take x k) (always c (Take x k)) r (t ∷ w) q (λ e. e) at other is (take is h)
 still c r q at other (call {p} {rest = k} {a} {y} {u} {v} h g) =
-  let all : Fits (Call p k) y (u ++ v) = call h g in
-  stays c (Call p k) (always c (Call p k)) r (u ++ v) q (λ e. e) at other (starts all) all
+    let all : Fits (Call p k) y (u ++ v) = call h g in
+    stays c (Call p k) (always c (Call p k)) r (u ++ v) q (λ e. e) at other (starts all) all
 still c r q at other (rest {p} {y} {w} h) =
-  let all : Fits (Rest p) y w = rest h in
-  stays c (Rest p) (always c (Rest p)) r w q (λ e. e) at other (starts all) all
+    let all : Fits (Rest p) y w = rest h in
+    stays c (Rest p) (always c (Rest p)) r w q (λ e. e) at other (starts all) all
 still c r q at other (left {b} {c = d} h) = choice_left (without c b) (without c d) (still c r q at other h)
 still c r q at other (right {b} {c = d} h) = choice_right (without c b) (without c d) (still c r q at other h)
 still c r q at other (yes h) = yes (still c r q at other h)
@@ -305,16 +305,16 @@ unseen {part} {p} {q} {b} {c} a other = choose a (λ y v h. back_from c b h) (λ
 pub decided : {part : Part} {p q : Point} {d : Bool} {b c : Body} → Awaits part p q (When d b c) → d ≡ true → Awaits part p q b
 decided {part} {p} {q} {d} {b} {c} a e = choose a (λ y v h. when_yes d e h) (λ y v r at free h. is_yes d e h)
   where
-  is_yes : (d : Bool) {b c : Body} {y : Phrase} {v : List Lexeme} → d ≡ true → Fits (When d b c) y v → Fits b y v
-  is_yes true e (yes h) = h
-  is_yes false e h = cc
+    is_yes : (d : Bool) {b c : Body} {y : Phrase} {v : List Lexeme} → d ≡ true → Fits (When d b c) y v → Fits b y v
+    is_yes true e (yes h) = h
+    is_yes false e h = cc
 
 pub declined : {part : Part} {p q : Point} {d : Bool} {b c : Body} → Awaits part p q (When d b c) → d ≡ false → Awaits part p q c
 declined {part} {p} {q} {d} {b} {c} a e = choose a (λ y v h. when_no d e h) (λ y v r at free h. is_no d e h)
   where
-  is_no : (d : Bool) {b c : Body} {y : Phrase} {v : List Lexeme} → d ≡ false → Fits (When d b c) y v → Fits c y v
-  is_no true e h = cc
-  is_no false e (no h) = h
+    is_no : (d : Bool) {b c : Body} {y : Phrase} {v : List Lexeme} → d ≡ false → Fits (When d b c) y v → Fits c y v
+    is_no true e h = cc
+    is_no false e (no h) = h
 
 is_rest : {p : Part} {y : Phrase} {v : List Lexeme} → Fits (Rest p) y v → Fits (rule p) y v
 is_rest (rest h) = h
@@ -369,27 +369,30 @@ done {part} {inner} {p} {q} {z} {k} {a} s i check = record {
   viable = let c = sentence (k a) (and_right (follows part inner (k a)) (inhabited (k a)) (check a)) in (c.0, c.1, made_of c.0 c.1 c.2);
   made = made_of;
   only = λ y x r w at e free h.
-    let m = s.only y x r (i.word ++ w) (at_more i.word q.rest z.rest w i.splits at) (e ∙ append_assoc s.word i.word w) free h in
-    let c = parted m.3 in
-    let cut : c.1 ++ (c.2 ++ r) ≡ i.word ++ w = sym (append_assoc c.1 c.2 r) ∙ (sym (ap (λ (n : List Lexeme). n ++ r) c.3) ∙ m.2) in
-    let n = i.only c.0 c.1 (c.2 ++ r) w at cut (free_behind part inner (k c.0) c.2 r (and_left (follows part inner (k c.0)) (inhabited (k c.0)) (check c.0)) (starts c.5) free) c.4 in
-    let g = gives_is n.3 in
-    let all : c.1 ≡ i.word = n.1 ∙ (ap (λ (n : List Lexeme). i.word ++ n) g.1 ∙ append-nil i.word) in
-    let off : c.2 ++ r ≡ w = sym (ap (λ (n : List Lexeme). n ++ (c.2 ++ r)) g.1) ∙ n.2 in
-    (c.2, m.1 ∙ (ap (λ (n : List Lexeme). s.word ++ n) (c.3 ∙ ap (λ (n : List Lexeme). n ++ c.2) all) ∙ sym (append_assoc s.word i.word c.2)), off, subst (λ (b : Phrase). Fits (k b) y c.2) g.0 c.5);
+      let m = s.only y x r (i.word ++ w) (at_more i.word q.rest z.rest w i.splits at) (e ∙ append_assoc s.word i.word w) free h in
+      let c = parted m.3 in
+      let cut : c.1 ++ (c.2 ++ r) ≡ i.word ++ w = sym (append_assoc c.1 c.2 r) ∙ (sym (ap (λ (n : List Lexeme). n ++ r) c.3) ∙ m.2) in
+      let n = i.only c.0 c.1 (c.2 ++ r) w at cut (free_behind part inner (k c.0) c.2 r (and_left (follows part inner (k c.0)) (inhabited (k c.0)) (check c.0)) (starts c.5) free) c.4 in
+      let g = gives_is n.3 in
+      let all : c.1 ≡ i.word = n.1 ∙ (ap (λ (n : List Lexeme). i.word ++ n) g.1 ∙ append-nil i.word) in
+      let off : c.2 ++ r ≡ w = sym (ap (λ (n : List Lexeme). n ++ (c.2 ++ r)) g.1) ∙ n.2 in
+      (c.2, m.1 ∙ (ap (λ (n : List Lexeme). s.word ++ n) (c.3 ∙ ap (λ (n : List Lexeme). n ++ c.2) all) ∙ sym (append_assoc s.word i.word c.2)), off, subst (λ (b : Phrase). Fits (k b) y c.2) g.0 c.5);
 }
   where
-  made_of : (y : Phrase) (v : List Lexeme) → Fits (k a) y v → Spells part y ((s.word ++ i.word) ++ v)
-  made_of y v h =
-    let own = subst (λ (z : List Lexeme). Spells inner a z) (append-nil i.word) (i.made a [] gives) in
-    subst (λ (z : List Lexeme). Spells part y z) (sym (append_assoc s.word i.word v)) (s.made y (i.word ++ v) (call own h))
+    made_of : (y : Phrase) (v : List Lexeme) → Fits (k a) y v → Spells part y ((s.word ++ i.word) ++ v)
+    made_of y v h =
+        let own = subst (λ (z : List Lexeme). Spells inner a z) (append-nil i.word) (i.made a [] gives) in
+        subst (λ (z : List Lexeme). Spells part y z) (sym (append_assoc s.word i.word v)) (s.made y (i.word ++ v) (call own h))
 
 -- with what a called part begins, the caller begins
 viable_in : (part : Part) {inner : Part} {k : Phrase → Body} (u v : List Lexeme) → ((y : Phrase) (w : List Lexeme) → Fits (Call inner k) y w → Spells part y (u ++ w)) → Viable inner v → good part inner k → Viable part (u ++ v)
 viable_in part {inner} {k} u v made n check =
-  let z = sentence (k n.0) (and_right (follows part inner (k n.0)) (inhabited (k n.0)) (check n.0)) in
-  (z.0, n.1 ++ z.1, subst (λ (x : List Lexeme). Spells part z.0 x) (ap (λ (x : List Lexeme). u ++ x) (append_assoc v n.1 z.1) ∙ sym (append_assoc u v (n.1 ++ z.1)))
-    (made z.0 ((v ++ n.1) ++ z.1) (call n.2 z.2)))
+    let z = sentence (k n.0) (and_right (follows part inner (k n.0)) (inhabited (k n.0)) (check n.0)) in (
+      z.0,
+      n.1 ++ z.1,
+      subst (λ (x : List Lexeme). Spells part z.0 x) (ap (λ (x : List Lexeme). u ++ x) (append_assoc v n.1 z.1) ∙ sym (append_assoc u v (n.1 ++ z.1)))
+          (made z.0 ((v ++ n.1) ++ z.1) (call n.2 z.2)),
+    )
 
 -- the reader that was called sticks
 pub stuck : {part inner : Part} {p q z : Point} {k : Phrase → Body} → Awaits part p q (Call inner k) → Awaits inner q z Never → good part inner k → Awaits part p z Never
@@ -400,11 +403,11 @@ stuck {part} {inner} {p} {q} {z} {k} s i check = record {
   viable = viable_in part s.word i.word s.made i.viable check;
   made = λ y v h. elim h [ ];
   only = λ y x r w at e free h.
-    let m = s.only y x r (i.word ++ w) (at_more i.word q.rest z.rest w i.splits at) (e ∙ append_assoc s.word i.word w) free h in
-    let c = parted m.3 in
-    let cut : c.1 ++ (c.2 ++ r) ≡ i.word ++ w = sym (append_assoc c.1 c.2 r) ∙ (sym (ap (λ (n : List Lexeme). n ++ r) c.3) ∙ m.2) in
-    let n = i.only c.0 c.1 (c.2 ++ r) w at cut (free_behind part inner (k c.0) c.2 r (and_left (follows part inner (k c.0)) (inhabited (k c.0)) (check c.0)) (starts c.5) free) c.4 in
-    elim n.3 [ ];
+      let m = s.only y x r (i.word ++ w) (at_more i.word q.rest z.rest w i.splits at) (e ∙ append_assoc s.word i.word w) free h in
+      let c = parted m.3 in
+      let cut : c.1 ++ (c.2 ++ r) ≡ i.word ++ w = sym (append_assoc c.1 c.2 r) ∙ (sym (ap (λ (n : List Lexeme). n ++ r) c.3) ∙ m.2) in
+      let n = i.only c.0 c.1 (c.2 ++ r) w at cut (free_behind part inner (k c.0) c.2 r (and_left (follows part inner (k c.0)) (inhabited (k c.0)) (check c.0)) (starts c.5) free) c.4 in
+      elim n.3 [ ];
 }
 
 -- what may go on with these tokens may with those of the caller
@@ -428,9 +431,9 @@ tail {part} {inner} {p} {q} {z} {b} a i check = let s = opened a in record {
   viable = (i.viable.0, i.viable.1, subst (λ (z : List Lexeme). Spells part i.viable.0 z) (sym (append_assoc s.word i.word i.viable.1)) (s.made i.viable.0 (i.word ++ i.viable.1) i.viable.2));
   made = λ y v h. subst (λ (z : List Lexeme). Spells part y z) (sym (append_assoc s.word i.word v)) (s.made y (i.word ++ v) (i.made y v h));
   only = λ y x r w at e free h.
-    let m = s.only y x r (i.word ++ w) (at_more i.word q.rest z.rest w i.splits at) (e ∙ append_assoc s.word i.word w) free h in
-    let n = i.only y m.0 r w at m.2 (free_wider part inner r check free) m.3 in
-    (n.0, m.1 ∙ (ap (λ (x : List Lexeme). s.word ++ x) n.1 ∙ sym (append_assoc s.word i.word n.0)), n.2, n.3);
+      let m = s.only y x r (i.word ++ w) (at_more i.word q.rest z.rest w i.splits at) (e ∙ append_assoc s.word i.word w) free h in
+      let n = i.only y m.0 r w at m.2 (free_wider part inner r check free) m.3 in
+      (n.0, m.1 ∙ (ap (λ (x : List Lexeme). s.word ++ x) n.1 ∙ sym (append_assoc s.word i.word n.0)), n.2, n.3);
 }
 
 -- a phrase by another name
@@ -456,4 +459,4 @@ barred {part} {inner} {p} {q} {r} {k} s i check = bars_on s.word s.splits s.walk
 
 pub barred_last : {part inner : Part} {p q : Point} {r : List Lexeme} → Awaits part p q (Rest inner) → Bars inner q r → Bars part p r
 barred_last {part} {inner} {p} {q} {r} s i = bars_on s.word s.splits s.walked i
-  (i.viable.0, i.viable.1, subst (λ (z : List Lexeme). Spells part i.viable.0 z) (sym (append_assoc s.word (i.word ++ i.token ∷ []) i.viable.1)) (s.made i.viable.0 ((i.word ++ i.token ∷ []) ++ i.viable.1) (rest i.viable.2)))
+    (i.viable.0, i.viable.1, subst (λ (z : List Lexeme). Spells part i.viable.0 z) (sym (append_assoc s.word (i.word ++ i.token ∷ []) i.viable.1)) (s.made i.viable.0 ((i.word ++ i.token ∷ []) ++ i.viable.1) (rest i.viable.2)))

@@ -1,5 +1,5 @@
 -- What a reader answers, in plain words.
-use Rattle.std.specs.Prelude.{◌≡◌, ◌≤◌, ◌<◌, ℕ, List, [], ◌∷◌, ◌++◌, length, drop, Option, Some, Result, Ok, Err}
+use Rattle.std.specs.Prelude.{◌≡◌, ◌≤◌, ◌<◌, ℕ, List, [], ◌∷◌, ◌++◌, length, drop, Some, Result, Ok, Err}
 use Rattle.spark_base.specs.declared.numbers.ExprNo.{ExprNo}
 use Rattle.spark_messages.specs.declared.messages.Message.{Message}
 use Rattle.spark_messages.specs.declared.messages.PhaseFault.{PhaseFault}

@@ -82,10 +82,10 @@ rule Expr = Call Simple (λ a. Rest (Continued a))
 -- an expression behind its first simple expression
 rule (Continued a) = Call (RestOfRel a) (λ r. Rest (RestOfExpr r))
 rule (RestOfExpr a) =
-  Or (Take (word words.And) (λ o. Rest (BehindAnd a o)))
-  (Or (Take (word words.Or) (λ o. Rest (BehindOr a o)))
-  (Or (Take (word words.Xor) (λ o. Rest (Opened logical.Xor a o)))
-  (Gives a)))
+    Or (Take (word words.And) (λ o. Rest (BehindAnd a o)))
+    (Or (Take (word words.Or) (λ o. Rest (BehindOr a o)))
+    (Or (Take (word words.Xor) (λ o. Rest (Opened logical.Xor a o)))
+    (Gives a)))
 rule (BehindAnd a o) = Or (Take (word words.Then) (λ t. Rest (Opened logical.AndThen a o))) (Rest (Opened logical.And a o))
 rule (BehindOr a o) = Or (Take (word words.Else) (λ t. Rest (Opened logical.OrElse a o))) (Rest (Opened logical.Or a o))
 rule (Opened operator a o) = Call (Begun operator a o) (λ b. Rest (Chain operator b))
@@ -100,13 +100,13 @@ rule (Chain logical.OrElse a) = Or (Take (word words.Or) (λ o. Take (word words
 -- rel = simple [("=" | "/=" | "<" | "<=" | ">" | ">=") simple] | simple ["not"] "in" (simple ".." simple | mark)
 rule Rel = Call Simple (λ a. Rest (RestOfRel a))
 rule (RestOfRel a) =
-  Or (Take classes.Relational (λ o. Call Simple (λ b. Gives (phrases.relation o a b))))
-  (Or (Take (word words.Not) (λ n. Take (word words.In) (λ i. Rest (Membership true a))))
-  (Or (Take (word words.In) (λ i. Rest (Membership false a)))
-  (Gives a)))
+    Or (Take classes.Relational (λ o. Call Simple (λ b. Gives (phrases.relation o a b))))
+    (Or (Take (word words.Not) (λ n. Take (word words.In) (λ i. Rest (Membership true a))))
+    (Or (Take (word words.In) (λ i. Rest (Membership false a)))
+    (Gives a)))
 rule (Membership is_not a) = Call Simple (λ low.
-  Or (Take (mark marks.Dots) (λ d. Call Simple (λ high. Gives (phrases.range_membership is_not a low high))))
-  (When (phrases.is_mark low.form) (Gives (phrases.mark_membership is_not a low)) Never))
+    Or (Take (mark marks.Dots) (λ d. Call Simple (λ high. Gives (phrases.range_membership is_not a low high))))
+    (When (phrases.is_mark low.form) (Gives (phrases.mark_membership is_not a low)) Never))
 -- simple = ["+" | "-"] term {("+" | "-") term}
 rule Simple = Call Signed (λ a. Rest (Sums a))
 rule Signed = Or (Take classes.Adding (λ s. Call Term (λ a. Gives (phrases.sign s a)))) (Rest Term)
@@ -116,86 +116,86 @@ rule Term = Call Factor (λ a. Rest (Products a))
 rule (Products a) = Or (Take classes.Multiplying (λ o. Call Factor (λ b. Rest (Products (phrases.product o a b))))) (Gives a)
 -- factor = primary ["**" primary] | "abs" primary | "not" primary
 rule Factor =
-  Or (Take (word words.Abs) (λ t. Call Primary (λ a. Gives (phrases.absolute t a))))
-  (Or (Take (word words.Not) (λ t. Call Primary (λ a. Gives (phrases.negation t a))))
-  (Rest Powered))
+    Or (Take (word words.Abs) (λ t. Call Primary (λ a. Gives (phrases.absolute t a))))
+    (Or (Take (word words.Not) (λ t. Call Primary (λ a. Gives (phrases.negation t a))))
+    (Rest Powered))
 rule Powered = Call Primary (λ a. Or (Take (mark marks.Power) (λ o. Call Primary (λ b. Gives (phrases.power o a b)))) (Gives a))
 -- primary = Number | name | "(" expr ")" | "(" ifexpr ")" | aggregate
 rule Primary =
-  Or (Take classes.Number (λ t. Gives (phrases.number t)))
-  (Or (Take classes.Word (λ t. Rest (Suffixes true (phrases.identifier t))))
-  (Take (mark marks.Open) (λ o. Rest (Parens o))))
+    Or (Take classes.Number (λ t. Gives (phrases.number t)))
+    (Or (Take classes.Word (λ t. Rest (Suffixes true (phrases.identifier t))))
+    (Take (mark marks.Open) (λ o. Rest (Parens o))))
 rule (Parens o) = Or (Take (word words.If) (λ t. Call (Condition t) (λ c. Take (mark marks.Close) (λ z. Gives (phrases.parenthesized o c z))))) (Rest (InParens o))
 -- ifexpr = "if" expr "then" expr {"elsif" expr "then" expr} "else" expr
 rule (Condition t) = Call Expr (λ c. Take (word words.Then) (λ u. Call Expr (λ v. Rest (Arms t (c.tree ∷ v.tree ∷ [])))))
 rule (Arms t arms) =
-  Or (Take (word words.Elsif) (λ e. Call Expr (λ c. Take (word words.Then) (λ u. Call Expr (λ v. Rest (Arms t ((arms ++ c.tree ∷ []) ++ v.tree ∷ [])))))))
-  (Take (word words.Else) (λ e. Call Expr (λ v. Gives (phrases.conditional t arms v))))
+    Or (Take (word words.Elsif) (λ e. Call Expr (λ c. Take (word words.Then) (λ u. Call Expr (λ v. Rest (Arms t ((arms ++ c.tree ∷ []) ++ v.tree ∷ [])))))))
+    (Take (word words.Else) (λ e. Call Expr (λ v. Gives (phrases.conditional t arms v))))
 -- aggregate | "(" expr ")", behind its parenthesis
 rule (InParens o) =
-  Or (Take (word words.Others) (λ t. Rest (NamedFrom o (phrases.others_choice t))))
-  (Call Simple (λ a.
+    Or (Take (word words.Others) (λ t. Rest (NamedFrom o (phrases.others_choice t))))
+    (Call Simple (λ a.
     Or (Take (mark marks.Dots) (λ d. Call Simple (λ h. Rest (NamedFrom o (phrases.range_choice a h)))))
     (Call (Continued a) (λ e. Rest (BehindExpr o e)))))
 -- "(" choice {"|" choice} "=>" expr {"," choice {"|" choice} "=>" expr} ")"
 rule (NamedFrom o c) = Call (Choices c.span (c.tree ∷ [])) (λ a. Rest (Associations o (a.tree ∷ [])))
 rule (BehindExpr o e) =
-  Or (Take (mark marks.Close) (λ z. Gives (phrases.parenthesized o e z)))
-  (Or (Take (mark marks.Comma) (λ c. Call Expr (λ b. Rest (Items o (e.tree ∷ b.tree ∷ [])))))
-  (Rest (NamedFrom o (phrases.value_choice e))))
+    Or (Take (mark marks.Close) (λ z. Gives (phrases.parenthesized o e z)))
+    (Or (Take (mark marks.Comma) (λ c. Call Expr (λ b. Rest (Items o (e.tree ∷ b.tree ∷ [])))))
+    (Rest (NamedFrom o (phrases.value_choice e))))
 -- "(" expr "," expr {"," expr} ["," "others" "=>" expr] ")"
 rule (Items o items) =
-  Or (Take (mark marks.Comma) (λ c. Or (Take (word words.Others) (λ t. Rest (LastItem o items))) (Call Expr (λ b. Rest (Items o (items ++ b.tree ∷ []))))))
-  (Take (mark marks.Close) (λ z. Gives (phrases.positional false o items z)))
+    Or (Take (mark marks.Comma) (λ c. Or (Take (word words.Others) (λ t. Rest (LastItem o items))) (Call Expr (λ b. Rest (Items o (items ++ b.tree ∷ []))))))
+    (Take (mark marks.Close) (λ z. Gives (phrases.positional false o items z)))
 rule (LastItem o items) = Take (mark marks.Arrow) (λ r. Call Expr (λ v. Take (mark marks.Close) (λ z. Gives (phrases.positional true o (items ++ v.tree ∷ []) z))))
 rule Association = Call Choice (λ c. Rest (Choices c.span (c.tree ∷ [])))
 rule (Choices first choices) =
-  Or (Take (mark marks.Bar) (λ b. Call Choice (λ c. Rest (Choices first (choices ++ c.tree ∷ [])))))
-  (Take (mark marks.Arrow) (λ r. Call Expr (λ v. Gives (phrases.association first choices v))))
+    Or (Take (mark marks.Bar) (λ b. Call Choice (λ c. Rest (Choices first (choices ++ c.tree ∷ [])))))
+    (Take (mark marks.Arrow) (λ r. Call Expr (λ v. Gives (phrases.association first choices v))))
 rule (Associations o associations) =
-  Or (Take (mark marks.Comma) (λ c. Call Association (λ a. Rest (Associations o (associations ++ a.tree ∷ [])))))
-  (Take (mark marks.Close) (λ z. Gives (phrases.named_aggregate o associations z)))
+    Or (Take (mark marks.Comma) (λ c. Call Association (λ a. Rest (Associations o (associations ++ a.tree ∷ [])))))
+    (Take (mark marks.Close) (λ z. Gives (phrases.named_aggregate o associations z)))
 -- choice = expr | simple ".." simple | "others"
 rule Choice =
-  Or (Take (word words.Others) (λ t. Gives (phrases.others_choice t)))
-  (Call Simple (λ a.
+    Or (Take (word words.Others) (λ t. Gives (phrases.others_choice t)))
+    (Call Simple (λ a.
     Or (Take (mark marks.Dots) (λ d. Call Simple (λ h. Gives (phrases.range_choice a h))))
     (Call (Continued a) (λ e. Gives (phrases.value_choice e)))))
 -- name = id {"." id | "(" arg,+ ")" | "'" attr ["(" expr,+ ")"] | "'" (aggregate | "(" expr ")")}; attr = id | "Range"
 rule Name = Take classes.Word (λ t. Rest (Suffixes true (phrases.identifier t)))
 -- parentheses behind an attribute belong to it
 rule (Suffixes may_open a) =
-  Or (Take (mark marks.Dot) (λ d. Take classes.Word (λ n. Rest (Suffixes true (phrases.selected a n)))))
-  (Or (Take (mark marks.Tick) (λ t. Rest (BehindTick a)))
-  (Rest (MayOpen may_open a)))
+    Or (Take (mark marks.Dot) (λ d. Take classes.Word (λ n. Rest (Suffixes true (phrases.selected a n)))))
+    (Or (Take (mark marks.Tick) (λ t. Rest (BehindTick a)))
+    (Rest (MayOpen may_open a)))
 rule (MayOpen true a) = Or (Take (mark marks.Open) (λ o. Call (ArgumentsFrom a) (λ n. Rest (Suffixes true n)))) (Gives a)
 rule (MayOpen false a) = Gives a
 rule (BehindTick a) =
-  Or (Take classes.AttributeName (λ n. Rest (BehindAttribute a n)))
-  (Take (mark marks.Open) (λ o. Call (InParens o) (λ q. Rest (Suffixes true (phrases.qualified a q)))))
+    Or (Take classes.AttributeName (λ n. Rest (BehindAttribute a n)))
+    (Take (mark marks.Open) (λ o. Call (InParens o) (λ q. Rest (Suffixes true (phrases.qualified a q)))))
 rule (BehindAttribute a n) =
-  Or (Take (mark marks.Open) (λ o. Call (ValuesFrom a n) (λ v. Rest (Suffixes true v))))
-  (Rest (Suffixes false (phrases.attribute n.token.kind a n)))
+    Or (Take (mark marks.Open) (λ o. Call (ValuesFrom a n) (λ v. Rest (Suffixes true v))))
+    (Rest (Suffixes false (phrases.attribute n.token.kind a n)))
 rule (ValuesFrom a n) = Call Expr (λ b. Rest (Values a.span n (a.tree ∷ b.tree ∷ [])))
 rule (Values first n values) =
-  Or (Take (mark marks.Comma) (λ c. Call Expr (λ b. Rest (Values first n (values ++ b.tree ∷ [])))))
-  (Take (mark marks.Close) (λ z. Gives (phrases.attribute_of n.token.kind first n values z)))
+    Or (Take (mark marks.Comma) (λ c. Call Expr (λ b. Rest (Values first n (values ++ b.tree ∷ [])))))
+    (Take (mark marks.Close) (λ z. Gives (phrases.attribute_of n.token.kind first n values z)))
 rule (ArgumentsFrom a) = Call Argument (λ b. Rest (Arguments a.span (a.tree ∷ b.tree ∷ [])))
 rule (Arguments first arguments) =
-  Or (Take (mark marks.Comma) (λ c. Call Argument (λ b. Rest (Arguments first (arguments ++ b.tree ∷ [])))))
-  (Take (mark marks.Close) (λ z. Gives (phrases.applied first arguments z)))
+    Or (Take (mark marks.Comma) (λ c. Call Argument (λ b. Rest (Arguments first (arguments ++ b.tree ∷ [])))))
+    (Take (mark marks.Close) (λ z. Gives (phrases.applied first arguments z)))
 -- arg = [id "=>"] expr
 rule Argument = Call Expr (λ a. When (phrases.is_identifier a.form)
-  (Or (Take (mark marks.Arrow) (λ r. Call Expr (λ b. Gives (phrases.named_argument a b)))) (Gives (phrases.argument a)))
-  (Gives (phrases.argument a)))
+    (Or (Take (mark marks.Arrow) (λ r. Call Expr (λ b. Gives (phrases.named_argument a b)))) (Gives (phrases.argument a)))
+    (Gives (phrases.argument a)))
 -- drange = sub | simple ".." simple | name "'" "Range"; sub = mark ["range" simple ".." simple]
 rule Drange = Call Simple (λ a.
-  Or (Take (mark marks.Dots) (λ d. Call Simple (λ h. Gives (phrases.bounds_range a h))))
-  (When (phrases.is_mark a.form) (Rest (SubtypeRange a))
-  (When (phrases.is_range a.form) (Gives (phrases.attribute_range a)) Never)))
+    Or (Take (mark marks.Dots) (λ d. Call Simple (λ h. Gives (phrases.bounds_range a h))))
+    (When (phrases.is_mark a.form) (Rest (SubtypeRange a))
+    (When (phrases.is_range a.form) (Gives (phrases.attribute_range a)) Never)))
 rule (SubtypeRange a) =
-  Or (Take (word words.Range) (λ r. Call Simple (λ l. Take (mark marks.Dots) (λ d. Call Simple (λ h. Gives (phrases.subtype_range (phrases.range_indication a l h)))))))
-  (Gives (phrases.subtype_range (phrases.indication a)))
+    Or (Take (word words.Range) (λ r. Call Simple (λ l. Take (mark marks.Dots) (λ d. Call Simple (λ h. Gives (phrases.subtype_range (phrases.range_indication a l h)))))))
+    (Gives (phrases.subtype_range (phrases.indication a)))
 
 -- the tokens make up the body, with this phrase
 pub data Fits : Body → Phrase → List Lexeme → Type 0 where

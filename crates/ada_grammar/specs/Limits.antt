@@ -64,8 +64,8 @@ weight s = Weightless
 -- one operator more, unless there are as many as may be
 abbrev pub counted : Nesting → Bool → Option Nesting
 counted n negates = if nat_lt n.operators most_operators
-  then Some (record { depth = n.depth; operators = n.operators + 1; parted = n.parted; behind_not = negates })
-  else None
+    then Some (record { depth = n.depth; operators = n.operators + 1; parted = n.parted; behind_not = negates })
+    else None
 
 -- so many open parentheses and so many operators
 abbrev pub set : Nesting → ℕ → ℕ → Nesting

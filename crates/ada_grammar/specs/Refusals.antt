@@ -1,5 +1,5 @@
 -- The message of a refusal at a token.
-use Rattle.std.specs.Prelude.{◌≡◌, ℕ, Bool, true, false, codes, List, [], ◌∷◌, Option, Some, None, slice_get}
+use Rattle.std.specs.Prelude.{◌≡◌, ℕ, Bool, true, false, codes, List, Option, Some, None, slice_get}
 use Rattle.spark_base.specs.declared.numbers.FileNo.{FileNo}
 use Rattle.spark_base.specs.declared.numbers.Pos.{Pos}
 use Rattle.spark_messages.specs.declared.messages.Code.{Code}

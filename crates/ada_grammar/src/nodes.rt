@@ -4,8 +4,8 @@ ghost use Rattle.ada_grammar.specs.Lexemes.{lexeme, text_of};
 ghost use Rattle.ada_grammar.specs.Phrases as phrases;
 
 use ada_tree::{
-    AddingOperator, ExprKind, ExprNode, Mark, MultiplyingOperator, RelationalOperator, Reserved, Token,
-    TokenKind, Tokens,
+    AddingOperator, ExprKind, ExprNode, Mark, MultiplyingOperator, RelationalOperator, Reserved,
+    Token, TokenKind, Tokens,
 };
 use spark_base::{ExprNo, Items, Name, NoMemory, Span};
 use std::alloc::Global;

@@ -215,7 +215,11 @@ impl Nesting {
             }
             Mark::Close => Some(self.set(self.depth.saturating_sub(1), self.operators)),
             Mark::Dots => {
-                let operators = if self.depth < self.parted { 0 } else { self.operators };
+                let operators = if self.depth < self.parted {
+                    0
+                } else {
+                    self.operators
+                };
                 Some(self.set(self.depth, operators))
             }
             Mark::Star | Mark::Plus | Mark::Minus | Mark::Slash => self.counted(false),
@@ -259,7 +263,11 @@ impl Nesting {
 }
 
 /// Takes the next token if it is of the class. The fault can only be `Limit`, at this token.
-pub fn accept(tokens: &Tokens, cursor: Cursor, class: Class) -> Result<Option<(Token, Cursor)>, Fault>
+pub fn accept(
+    tokens: &Tokens,
+    cursor: Cursor,
+    class: Class,
+) -> Result<Option<(Token, Cursor)>, Fault>
     ensures { Accepts class (lexeme tokens.now.source) (lexemes tokens.now) cursor result }
 {
     let list = tokens.list.as_slice();

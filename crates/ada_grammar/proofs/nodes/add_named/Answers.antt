@@ -12,5 +12,5 @@ returns-clause-within c = added_within c.in_ok-node.ensures.adds
 
 pub returns-clause-builds : goal.returns-clause-builds
 returns-clause-builds c =
-  ap (λ (z : Tree). record { tree = z; span = c.args.span; form = c.args.form }) (added_tree c.in_ok-node.ensures.adds)
-  ∙ ap (λ (z : List ℕ). named c.args.form c.args.kind (record { token = c.args.token; text = z }) c.args.span (trees_at (trees c.args.exprs.now) c.args.children)) (c.in_ok-name.ensures.written ∙ c.text.ensures)
+    ap (λ (z : Tree). record { tree = z; span = c.args.span; form = c.args.form }) (added_tree c.in_ok-node.ensures.adds)
+    ∙ ap (λ (z : List ℕ). named c.args.form c.args.kind (record { token = c.args.token; text = z }) c.args.span (trees_at (trees c.args.exprs.now) c.args.children)) (c.in_ok-name.ensures.written ∙ c.text.ensures)

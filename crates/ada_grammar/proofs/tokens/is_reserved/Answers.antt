@@ -15,8 +15,8 @@ agree false false f g = refl
 
 compared : (a b : Reserved) → sameb the_type a b ≡ same_word b a
 compared a b = agree (sameb the_type a b) (same_word b a)
-  (λ e. subst (λ (z : Reserved). same_word b z ≡ true) (sym (same_true the_type (search rules) a b e)) (word_self b))
-  (λ e f. same_false the_type a b e (sym (one_word b a f)))
+    (λ e. subst (λ (z : Reserved). same_word b z ≡ true) (sym (same_true the_type (search rules) a b e)) (word_self b))
+    (λ e f. same_false the_type a b e (sym (one_word b a f)))
 
 pub returns-in-Reserved : goal.returns-in-Reserved
 returns-in-Reserved c = c.eq.ensures ∙ (compared _ _ ∙ ap (λ (k : TokenKind). is_in (ReservedClass c.args.word) (sort_of k)) (sym c.in-Reserved.is))
