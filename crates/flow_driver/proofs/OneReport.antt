@@ -25,17 +25,17 @@ use Rattle.flow_driver.proofs.SameEquation.{equation_same}
 use Rattle.flow_driver.proofs.SameMessages.{messages_same}
 
 -- the bytes spell one source at most
-one_spelled : (file : FileNo) (bytes : List ℕ) (s u : Source) → Spells file bytes s → Spells file bytes u → s ≡ u
+pub one_spelled : (file : FileNo) (bytes : List ℕ) (s u : Source) → Spells file bytes s → Spells file bytes u → s ≡ u
 one_spelled file bytes s u h k =
     let ok = sym h.cut ∙ k.cut in
     let same : h.tokens ≡ k.tokens = cc in
     one_source s u (sym h.spell ∙ ap (symbols bytes) same ∙ k.spell)
 
 -- the procedure of a source, whose code has this number
-abbrev procedure : Source → StmtNo → Body
+abbrev pub procedure : Source → StmtNo → Body
 procedure s number = low_procedure (variable_keys s.spec.variables) s number
 
-abbrev contract : Source → Contract
+abbrev pub contract : Source → Contract
 contract s = low_contract (variable_keys s.spec.variables) s.spec.procedure.aspect s.spec.procedure.global
 
 nothing_first : (Q : List Message → Type 0) (list : List Message) → AreJoined (λ l. l ≡ []) Q list → Q list
@@ -49,7 +49,7 @@ nothing_last P list j =
     subst P is j.is_first
 
 -- the messages on a lowered program are those on its procedure
-found_is : (s : Source) (p : Program) (h : IsLowered s p) (found : List Message) → AreMessagesFrom p 0 p.bodies found → AreChecked p 2 (procedure s h.third) (contract s) found
+pub found_is : (s : Source) (p : Program) (h : IsLowered s p) (found : List Message) → AreMessagesFrom p 0 p.bodies found → AreChecked p 2 (procedure s h.third) (contract s) found
 found_is s p h found m =
     let k = subst (λ (bodies : List Body). AreMessagesFrom p 0 bodies found) h.bodies m in
     nothing_last (AreChecked p 2 (procedure s h.third) (contract s)) found
@@ -57,7 +57,7 @@ found_is s p h found m =
     (nothing_first (AreMessagesFrom p 1 (elaboration s.spec.«package» s.body.«package» h.second false ∷ procedure s h.third ∷ [])) found k))
 
 module _ (s : Source) (p q : Program) (h : IsLowered s p) (k : IsLowered s q) where
-  one_equation : equation p 2 ≡ equation q 2
+  pub one_equation : equation p 2 ≡ equation q 2
   one_equation =
       equation_same p q (h.leaves ∙ sym k.leaves) (h.vars ∙ sym k.vars) 2 (procedure s h.third) (procedure s k.third)
       (ap (λ (bodies : List Body). slice_get bodies 2) h.bodies) (ap (λ (bodies : List Body). slice_get bodies 2) k.bodies)

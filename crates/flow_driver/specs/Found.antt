@@ -1,6 +1,7 @@
 -- Messages that are added to others.
 use Rattle.std.specs.Prelude.{◌≡◌, List, ◌++◌}
 use Rattle.core_form.specs.Fine.{IsWellFormed}
+use Rattle.core_form.specs.Proper.{IsProper}
 use Rattle.core_form.specs.declared.program.Program.{Program}
 use Rattle.first_lower.specs.Lowered.{IsLowered}
 use Rattle.first_conditions.specs.Conditions.{MeetsConditions}
@@ -18,3 +19,4 @@ pub record IsLoweredFrom (s : Source) (p : Program) : Type 0 where
   pub meets : MeetsConditions s
   pub lowered : IsLowered s p
   pub fine : IsWellFormed p
+  pub proper : IsProper p

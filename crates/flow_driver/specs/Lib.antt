@@ -4,3 +4,4 @@ pub mod GlobalCheck
 pub mod Reading
 pub mod Report
 pub mod Run
+pub mod Runs

@@ -1,6 +1,8 @@
 -- The report of a source: its refusal, or else the messages of the flow.
 use Rattle.std.specs.Prelude.{◌≡◌, ℕ, ◌+◌, ◌++◌, true, false, List, [], ◌∷◌, Option, Some, None, codes}
 use Rattle.std.specs.List.Sorted.{IsStrictlySortedBy}
+use Rattle.core_form.specs.Fine.{IsWellFormed}
+use Rattle.core_form.specs.Proper.{IsProper}
 use Rattle.core_form.specs.declared.contract.Contract.{Contract}
 use Rattle.core_form.specs.declared.program.Body.{Body}
 use Rattle.core_form.specs.declared.program.Program.{Program}
@@ -26,11 +28,13 @@ pub record IsFirstPath (bytes : List ℕ) (s : Source) : Type 0 where
   pub spells : Spells (record { 0 = 0 }) bytes s
   pub meets : MeetsConditions s
 
--- the program of a source of the first path
+-- the program of a source of the first path, as lowering makes it
 pub record IsProgramOf (bytes : List ℕ) (p : Program) : Type 0 where
   pub source : Source
   pub is_first : IsFirstPath bytes source
   pub lowered : IsLowered source p
+  pub fine : IsWellFormed p
+  pub proper : IsProper p
 
 -- the reading of a source: its program, or none where it is no source of the first path
 abbrev pub IsReading : List ℕ → Option Program → Type 0

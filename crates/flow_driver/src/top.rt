@@ -2,6 +2,7 @@ ghost use Rattle.std.specs.Prelude.{◌≡◌, ◌⊎◌, ◌≤◌, ◌↔◌, 
 ghost use Rattle.source_io.specs.Clean.{files_told, bytes_held};
 ghost use Rattle.source_io.specs.Counts.{Rose};
 ghost use Rattle.flow_driver.specs.Run.{is_name, are_accepted, IsCountedBy, IsPrinted, IsPartlyPrinted, GrewByPart, Complains, unread_line};
+ghost use Rattle.flow_driver.specs.Runs.{IsReadClean};
 ghost use Rattle.spark_messages.specs.Text.{name_at};
 ghost use Rattle.flow_driver.specs.Reading.{IsLastAsked};
 
@@ -74,6 +75,9 @@ pub fn run_words<F: Files, K: Sink, E: Sink, G: Turnstile>(
     ensures given_up { result ≡ 6 → (K.held out.new ≡ K.held out.old)
         ⊎ IsPartlyPrinted F.told F.gaps K.held (map string_bytes words.now) files.old out.old out.new }
 
+    // What a report without an error says of runs.
+    ensures clean { result ≡ 0 → IsReadClean F.told F.gaps (map string_bytes words.now) files.old }
+
     // Which files were asked for.
     ensures asked { GrewByPart (F.asked files.old) (map string_bytes words.now) (F.asked files.new) }
     ensures none_asked { result ≡ 3 → F.asked files.new ≡ F.asked files.old }
@@ -123,6 +127,7 @@ pub fn run_clean<E: Sink, G: Turnstile>(
     ensures range { (result ≤ 3) ⊎ (result ≡ 6) }
     ensures words { (result ≡ 3) ↔ (are_accepted (map string_bytes words.now) ≡ false) }
     ensures printed { result ≤ 2 → IsPrinted files_told (λ _. true) bytes_held (map string_bytes words.now) result files.old out.old out.new }
+    ensures clean { result ≡ 0 → IsReadClean files_told (λ _. true) (map string_bytes words.now) files.old }
     ensures untouched { result ≡ 3 → bytes_held out.new ≡ bytes_held out.old }
     ensures given_up { result ≡ 6 → (bytes_held out.new ≡ bytes_held out.old)
         ⊎ IsPartlyPrinted files_told (λ _. true) bytes_held (map string_bytes words.now) files.old out.old out.new }

@@ -1,0 +1,2 @@
+mod HeldFrames
+mod Lists

@@ -1,0 +1,135 @@
+-- Lists of cells, and of the statements that remain.
+use Rattle.std.proofs.Common.{◌≡◌, ℕ, zero, suc, ◌+◌, ◌-◌, ◌<◌, Bool, true, false, cond, List, [], ◌∷◌, ◌++◌, length, get_or, set, take, drop, Option, Some, None, refl, sym, ap, ◌∙◌, arith, add-one, length-append, ℤ}
+use Rattle.std.specs.Prelude.{slice_get, slice_index_or, IsSome, All}
+use Rattle.std.specs.Option.{option_to_list}
+use Rattle.core_form.proofs.Grown.{slice_get-last}
+use Rattle.std.proofs.lemmas.List.{length-replicate, length-map}
+use Rattle.std.proofs.Math.Seq.{drop-cons}
+use Rattle.std.proofs.Math.ListN.{length-set}
+use Rattle.spark_base.specs.declared.numbers.StmtNo.{StmtNo}
+use Rattle.spark_base.specs.declared.numbers.ExprNo.{ExprNo}
+use Rattle.core_form.specs.declared.code.CoreStmt.{CoreStmt}
+use Rattle.core_form.specs.Code.{Expr, Code, Skip, Then, Assign, Clear, Branch, Repeat, Exit, Called, Guard, Delay, ReadClock, Stop, code_of, code_at, codes_at}
+use Rattle.std.proofs.lemmas.List.Elements.{All-append}
+use Rattle.core_form.specs.Proper.{cells_of}
+use Rattle.core_form.specs.declared.program.Leaf.{Leaf}
+use Rattle.core_form.specs.declared.program.Program.{Program}
+use Rattle.run_model.specs.Held.{AreStmts, IsPlain, held_items, size, weight}
+use Rattle.run_model.specs.Machine.{Item, Do, bare, bare_leaves, cells_seen, is_library, push}
+use Rattle.run_model.specs.Runs.{IsSized}
+use Rattle.run_model.specs.Values.{number_in, numbers_from, written}
+
+-- one number more
+pub numbers_next : (cells : List (Option ℤ)) (i n : ℕ) → i < n → numbers_from cells i (n - i) ≡ number_in (get_or cells i None) ∷ numbers_from cells (i + 1) (n - (i + 1))
+numbers_next cells i n h = let e : n - i ≡ suc (n - (i + 1)) = omega arith in rw e refl
+
+-- one value more
+pub written_next : (cells : List (Option ℤ)) (first i : ℕ) (values : List ℤ) (d : ℤ) → i < length values
+    → written cells (first + i) (drop i values) ≡ written (set cells (first + i) (Some (get_or values i d))) (first + i + 1) (drop (i + 1) values)
+written_next cells first i values d h = rw (drop-cons values i d, add-one i) refl
+
+-- the cells keep their count
+pub written_length : (cells : List (Option ℤ)) (first : ℕ) (values : List ℤ) → length (written cells first values) ≡ length cells
+written_length cells first [] = refl
+written_length cells first (v ∷ vs) = written_length (set cells first (Some v)) (first + 1) vs ∙ length-set cells first (Some v)
+
+-- each leaf has its cells
+bare_length : (leaves : List Leaf) (n : ℕ) → length (slice_index_or (bare_leaves leaves) n []) ≡ elim (slice_get leaves n) [ None ↦ 0 | Some l ↦ l.cells ]
+bare_length [] n = refl
+bare_length (l ∷ ls) zero = length-replicate l.cells None
+bare_length (l ∷ ls) (suc n) = bare_length ls n
+
+pub bare_sized : (p : Program) → IsSized p (bare_leaves p.leaves)
+bare_sized p = record { leaves = length-map p.leaves (λ (l : Leaf). bare l.cells); cells = λ n. bare_length p.leaves n }
+
+-- one statement more, before those that remain
+pub held_more : (p : Program) (ss : List StmtNo) (s : StmtNo) (k : List Item) → held_items p (ss ++ s ∷ []) k ≡ push (code_of p.exprs p.stmts s) (held_items p ss k)
+held_more p [] s k = refl
+held_more p (t ∷ ss) s k = held_more p ss s (push (code_of p.exprs p.stmts t) k)
+
+pub weight_more : (p : Program) (ss : List StmtNo) (s : StmtNo) → weight p (ss ++ s ∷ []) ≡ weight p ss + size (code_of p.exprs p.stmts s)
+weight_more p [] s = omega arith
+weight_more p (t ∷ ss) s = let e = weight_more p ss s in omega arith
+
+pub codes_weigh : (p : Program) (ss : List StmtNo) → weight p ss < size (codes_at (code_of p.exprs p.stmts) ss)
+codes_weigh p [] = omega arith
+codes_weigh p (s ∷ ss) = let e = codes_weigh p ss in omega arith
+
+All-one : {X : Type 0} (P : X → Type 0) → (x : X) → P x → All P (x ∷ [])
+All-one P x i zero d l = i
+All-one P x i (suc k) d l = absurd (omega arith)
+
+pub All-more_last : {X : Type 0} (P : X → Type 0) → (xs : List X) (x : X) → All P xs → P x → All P (xs ++ x ∷ [])
+All-more_last P xs x h i = All-append P xs (x ∷ []) h (All-one P x i)
+
+pub stmts_more : (p : Program) (ss : List StmtNo) (s : StmtNo) → AreStmts p ss → s.0 < length p.stmts → AreStmts p (ss ++ s ∷ [])
+stmts_more p ss s h i = All-more_last (λ (x : StmtNo). x.0 < length p.stmts) ss s h i
+
+-- a statement that is no sequence, before what remains
+pub push_plain : (a : Code) (k : List Item) → IsPlain a → push a k ≡ Do a ∷ k
+push_plain Skip k h = absurd h
+push_plain (Then a b) k h = absurd h
+push_plain (Assign to e at) k h = refl
+push_plain (Clear leaf) k h = refl
+push_plain (Branch e a b) k h = refl
+push_plain (Repeat a) k h = refl
+push_plain (Exit o) k h = refl
+push_plain (Called b actuals at) k h = refl
+push_plain (Guard o barrier c) k h = refl
+push_plain (Delay e) k h = refl
+push_plain (ReadClock to) k h = refl
+push_plain Stop k h = refl
+
+pub plain_node : (expr : ExprNo → Expr) (code : StmtNo → Code) (node : CoreStmt) → ((list : List StmtNo) → node ≡ CoreStmt.Seq list → ⊥) → IsPlain (code_at expr code (Some node))
+plain_node expr code (CoreStmt.Move to e at) h = tt
+plain_node expr code (CoreStmt.Fresh leaf) h = tt
+plain_node expr code (CoreStmt.If test a b) h = tt
+plain_node expr code (CoreStmt.Loop body) h = tt
+plain_node expr code (CoreStmt.Leave n) h = tt
+plain_node expr code CoreStmt.Back h = tt
+plain_node expr code (CoreStmt.Call callee actuals at) h = tt
+plain_node expr code (CoreStmt.Guarded object barrier call) h = tt
+plain_node expr code (CoreStmt.DelayUntil e) h = tt
+plain_node expr code (CoreStmt.Clock to) h = tt
+plain_node expr code CoreStmt.Fail h = tt
+plain_node expr code (CoreStmt.Seq list) h = absurd (h list refl)
+
+pub codes_are_no_step : (code : StmtNo → Code) (list : List StmtNo) → IsPlain (codes_at code list) → ⊥
+codes_are_no_step code [] h = h
+codes_are_no_step code (s ∷ ss) h = h
+
+-- the last, behind the others
+pub split_last : {X : Type 0} → (items : List X) (x : X) → slice_get items (length items - 1) ≡ Some x → items ≡ take (length items - 1) items ++ x ∷ []
+split_last {X} [] x h = let n : Option X = None in let z : n ≡ Some x = h in cc
+split_last (y ∷ []) x h = let z : Some y ≡ Some x = h in let i : y ≡ x = cc in ap (λ w. w ∷ []) i
+split_last (y ∷ z ∷ zs) x h =
+    let at : length (y ∷ z ∷ zs) - 1 ≡ suc (length (z ∷ zs) - 1) = omega arith in
+    let g : slice_get (z ∷ zs) (length (z ∷ zs) - 1) ≡ Some x = sym (ap (slice_get (y ∷ z ∷ zs)) at) ∙ h in
+    rw at (ap (λ w. y ∷ w) (split_last (z ∷ zs) x g))
+
+-- another in the place of the last
+pub set_last : {X : Type 0} → (items : List X) (x y : X) → slice_get items (length items - 1) ≡ Some x → set items (length items - 1) y ≡ take (length items - 1) items ++ y ∷ []
+set_last {X} [] x y h = let n : Option X = None in let z : n ≡ Some x = h in cc
+set_last (w ∷ []) x y h = refl
+set_last (w ∷ z ∷ zs) x y h =
+    let at : length (w ∷ z ∷ zs) - 1 ≡ suc (length (z ∷ zs) - 1) = omega arith in
+    let g : slice_get (z ∷ zs) (length (z ∷ zs) - 1) ≡ Some x = sym (ap (slice_get (w ∷ z ∷ zs)) at) ∙ h in
+    rw at (ap (λ l. w ∷ l) (set_last (z ∷ zs) x y g))
+
+-- what was taken from the end
+pub taken_last : {X : Type 0} → (items front : List X) (o : Option X) (x : X) → items ≡ front ++ option_to_list o → IsSome o → slice_get items (length items - 1) ≡ Some x → items ≡ front ++ x ∷ []
+taken_last items front None x e some h = absurd (let z : false ≡ true = some in cc)
+taken_last items front (Some y) x e some h =
+    let size : length items ≡ length front + 1 = ap length e ∙ length-append front (y ∷ []) in
+    let at : length items - 1 ≡ length front = omega arith in
+    let same : Some y ≡ Some x = sym (slice_get-last front y) ∙ (sym (ap (λ l. slice_get l (length front)) e) ∙ (sym (ap (slice_get items) at) ∙ h)) in
+    let is : y ≡ x = cc in
+    e ∙ ap (λ z. front ++ z ∷ []) is
+
+-- the cells that a frame sees have the leaf's count
+pub seen_sized : (p : Program) (library own : List (List (Option ℤ))) (leaf : ℕ) → IsSized p library → IsSized p own → length (cells_seen p library own leaf) ≡ cells_of p leaf
+seen_sized p library own leaf h k = cases (is_library p leaf)
+  where
+    cases : (b : Bool) → length (cond b (slice_index_or library leaf []) (slice_index_or own leaf [])) ≡ cells_of p leaf
+    cases true = h.cells leaf
+    cases false = k.cells leaf
