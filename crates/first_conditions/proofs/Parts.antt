@@ -2,8 +2,8 @@
 use Rattle.std.proofs.Common.{◌≡◌, true, [], map, arith}
 use Rattle.std.proofs.lemmas.List.Sums.{AllPass-from_list_all, list_all-from_AllPass}
 use Rattle.first_path.specs.declared.source.Source.{Source}
-use Rattle.first_conditions.specs.Checks.{IsFitBody, IsFitSpec, are_items, are_known, are_new, keys_of}
-use Rattle.first_conditions.specs.Conditions.{AreDistinct, MeetsConditions, is_known, item_words, key, lines_words, variable_keys}
+use Rattle.first_conditions.specs.Checks.{IsFitBody, IsFitSpec, are_items, are_known, are_new}
+use Rattle.first_conditions.specs.Conditions.{AreDistinct, MeetsConditions, declared_keys, is_known, item_words, key, lines_words, variable_keys}
 use Rattle.first_conditions.proofs.Distinct.{distinct_when_new, new_when_distinct, items_parts}
 
 pub fit_spec : (s : Source) → MeetsConditions s → IsFitSpec s.spec
@@ -27,7 +27,7 @@ fit_items s m =
     let new = new_when_distinct (map key (item_words s.spec.procedure.global)) m.once in
     grind (arith, items_parts (variable_keys s.spec.variables) [] (item_words s.spec.procedure.global), known, new)
 
-pub meets : (s : Source) → IsFitSpec s.spec → IsFitBody s.spec s.body → AreDistinct (keys_of s.spec)
+pub meets : (s : Source) → IsFitSpec s.spec → IsFitBody s.spec s.body → AreDistinct (declared_keys s.spec)
     → are_items (variable_keys s.spec.variables) [] (item_words s.spec.procedure.global) ≡ true
     → are_known (variable_keys s.spec.variables) (lines_words s.body.procedure.lines) ≡ true → MeetsConditions s
 meets s spec body distinct items names =

@@ -4,18 +4,14 @@ use Rattle.std.specs.List.{list_all}
 use Rattle.first_path.specs.declared.source.PackageBody.{PackageBody}
 use Rattle.first_path.specs.declared.source.Spec.{Spec}
 use Rattle.first_path.specs.declared.source.Word.{Word}
-use Rattle.first_conditions.specs.Conditions.{key, variable_keys, mode_named, entries_of, is_known, IsFree, IsShort}
-
--- the keys that a spec declares
-abbrev pub keys_of : Spec → List (List ℕ)
-keys_of s = key s.procedure.name ∷ variable_keys s.variables
+use Rattle.first_conditions.specs.Conditions.{declared_keys, key, mode_named, entries_of, is_known, IsFree, IsShort}
 
 -- a spec by itself: its type marks, aspect, modes and names
 pub record IsFitSpec (s : Spec) : Type 0 where
   pub marks : All (λ v. key v.mark ≡ codes "integer") s.variables
   pub aspect : key s.procedure.aspect ≡ codes "global"
   pub modes : All (λ e. IsSome (mode_named (key e.mode))) (entries_of s.procedure.global)
-  pub free : All (IsFree (key s.«package»)) (keys_of s)
+  pub free : All (IsFree (key s.«package»)) (declared_keys s)
   pub end : IfSome s.end (λ w. key w ≡ key s.«package»)
 
 -- a body beside its spec: its names, and how long its expressions are

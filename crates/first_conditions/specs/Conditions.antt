@@ -15,6 +15,7 @@ use Rattle.first_path.specs.declared.source.Names.TheVariants as names
 use Rattle.first_path.specs.declared.source.Primary.{Primary}
 use Rattle.first_path.specs.declared.source.Primary.TheVariants as primary
 use Rattle.first_path.specs.declared.source.Source.{Source}
+use Rattle.first_path.specs.declared.source.Spec.{Spec}
 use Rattle.first_path.specs.declared.source.Sum.{Sum}
 use Rattle.first_path.specs.declared.source.Variable.{Variable}
 use Rattle.first_path.specs.declared.source.Word.{Word}
@@ -86,15 +87,15 @@ pub record IsFree (package_key k : List ℕ) : Type 0 where
   pub «package» : k ≢ package_key
 
 -- the keys of the variables, and that of the procedure
-abbrev pub declared_keys : Source → List (List ℕ)
-declared_keys s = key s.spec.procedure.name ∷ variable_keys s.spec.variables
+abbrev pub declared_keys : Spec → List (List ℕ)
+declared_keys s = key s.procedure.name ∷ variable_keys s.variables
 
 pub record MeetsConditions (s : Source) : Type 0 where
   pub marks : All (λ v. key v.mark ≡ codes "integer") s.spec.variables
   pub aspect : key s.spec.procedure.aspect ≡ codes "global"
   pub modes : All (λ e. IsSome (mode_named (key e.mode))) (entries_of s.spec.procedure.global)
-  pub free : All (IsFree (key s.spec.«package»)) (declared_keys s)
-  pub distinct : AreDistinct (declared_keys s)
+  pub free : All (IsFree (key s.spec.«package»)) (declared_keys s.spec)
+  pub distinct : AreDistinct (declared_keys s.spec)
   pub same_package : key s.body.«package» ≡ key s.spec.«package»
   pub same_procedure : key s.body.procedure.name ≡ key s.spec.procedure.name
   pub spec_end : IfSome s.spec.end (λ w. key w ≡ key s.spec.«package»)

@@ -1,7 +1,7 @@
 ghost use Rattle.std.specs.Prelude.{◌≡◌, ◌+◌, ◌≤◌, ◌∷◌, ◌↔◌, length, map, All, IsSome, IsTrue, IfSome, codes};
 ghost use Rattle.std.specs.Char.{to_ascii_lowercase};
-ghost use Rattle.first_conditions.specs.Checks.{IsFitBody, IsFitSpec, keys_of};
-ghost use Rattle.first_conditions.specs.Conditions.{IsFree, IsShort, entries_of, key, mode_named};
+ghost use Rattle.first_conditions.specs.Checks.{IsFitBody, IsFitSpec};
+ghost use Rattle.first_conditions.specs.Conditions.{IsFree, IsShort, declared_keys, entries_of, key, mode_named};
 
 use core_form::Mode;
 use first_path::{Entry, GlobalForm, Line, PackageBody, Spec, Test, Variable, Word};
@@ -125,7 +125,7 @@ fn are_short(lines: &[Line]) -> bool
 
 /// Whether each name that a spec declares is free.
 fn declares_free(spec: &Spec) -> bool
-    ensures { IsTrue result ↔ All (IsFree (key spec.now.package)) (keys_of spec.now) }
+    ensures { IsTrue result ↔ All (IsFree (key spec.now.package)) (declared_keys spec.now) }
 {
     is_free(&spec.package, &spec.procedure.name)
         && are_free(&spec.package, spec.variables.as_slice())

@@ -1,7 +1,7 @@
 ghost use Rattle.std.specs.Prelude.{◌≡◌, [], ◌∷◌, ◌++◌, map, is_some, IfNone, IfOk, IfSome, IsTrue};
 ghost use Rattle.std.specs.List.{flat_map};
-ghost use Rattle.first_conditions.specs.Checks.{are_items, are_known, are_new, keys_of};
-ghost use Rattle.first_conditions.specs.Conditions.{AreDistinct, is_known, item_words, key, line_words, lines_words, primary_words, sum_words, variable_keys, words_of};
+ghost use Rattle.first_conditions.specs.Checks.{are_items, are_known, are_new};
+ghost use Rattle.first_conditions.specs.Conditions.{AreDistinct, declared_keys, is_known, item_words, key, line_words, lines_words, primary_words, sum_words, variable_keys, words_of};
 
 use crate::names::{KeyTable, key_of};
 use first_path::{Entry, GlobalForm, Line, Names, Primary, Spec, Sum, Term, Test, Variable, Word};
@@ -203,8 +203,8 @@ fn keys_of_variables(alloc: Global, variables: &[Variable]) -> Result<Option<Key
 /// The keys of a spec's variables, in their order, and none where a declared name comes twice.
 #[tactic(auto, using(crate::proofs::Distinct::distinct_when_new, crate::proofs::Distinct::new_when_distinct))]
 pub fn declared(alloc: Global, spec: &Spec) -> Result<Option<KeyTable>, NoMemory>
-    ensures some { IfOk result (λ r. IfSome r (λ t. AreDistinct (keys_of spec.now) × (t ≡ variable_keys spec.now.variables))) }
-    ensures none { IfOk result (λ r. IfNone r (AreDistinct (keys_of spec.now) → ⊥)) }
+    ensures some { IfOk result (λ r. IfSome r (λ t. AreDistinct (declared_keys spec.now) × (t ≡ variable_keys spec.now.variables))) }
+    ensures none { IfOk result (λ r. IfNone r (AreDistinct (declared_keys spec.now) → ⊥)) }
 {
     let Some(table) = keys_of_variables(alloc, spec.variables.as_slice())? else {
         return Ok(None);
