@@ -1,5 +1,5 @@
 -- A call that stands alone begins well.
-use Rattle.std.proofs.Common.{◌≡◌, ◌⊎◌, inl, inr, ℕ, zero, suc, ◌<◌, Bool, true, false, cond, ◌&&◌, List, [], ◌∷◌, length, Option, Some, None, refl, sym, ap, ◌∙◌, arith, ℤ}
+use Rattle.std.proofs.Common.{◌≡◌, ◌⊎◌, inl, inr, ℕ, zero, suc, ◌<◌, Bool, true, false, cond, ◌&&◌, List, [], ◌∷◌, length, Option, Some, None, refl, sym, ap, ◌∙◌, arith, ℤ, subst}
 use Rattle.std.specs.Prelude.{IsTrue, IsSomeAnd, IfSome, slice_get, slice_index_or}
 use Rattle.std.proofs.lemmas.Bool.{eq-eqb}
 use Rattle.std.proofs.lemmas.Option.{slice_get_within}
@@ -14,8 +14,8 @@ use Rattle.core_form.specs.declared.program.Program.{Program}
 use Rattle.flow_relations.specs.Equation.{code_of_body, is_out, is_unset, is_unset_leaf, is_unset_var, plain_flow, starts_unset}
 use Rattle.run_model.specs.Values.{CellNo}
 use Rattle.run_model.specs.Machine.{Item, body_code, cells_seen, is_library, is_package, push}
-use Rattle.run_model.specs.Runs.{IsFilled, IsSized, called, run}
-use Rattle.run_laws.specs.Clean.{AreClean, with_writes}
+use Rattle.run_model.specs.Runs.{IsBare, IsFilled, IsSized, called, run}
+use Rattle.run_laws.specs.Clean.{AreClean, IsListed, is_input, with_writes}
 use Rattle.run_laws.specs.Laws.{HasCleanRuns, IsEntry, IsGiven, IsGivenBy, IsInputBy, IsSilent, alone}
 use Rattle.run_laws.specs.Unassigned.{all, sites}
 use Rattle.run_laws.proofs.Bodies.{Fits, Loose, frame}
@@ -122,6 +122,15 @@ module _ (p : Program) (fine : IsWellFormed p) (proper : IsProper p) (silent : I
       cases : (left : List Item) → push (body_code p b) [] ≡ left → Inv p library None (ends_with p left (frame b (push (body_code p b) []) own []))
       cases [] i = tt
       cases (j ∷ k) i = record { kind = Call b; fits = starts; follows = tt }
+
+-- an input of a call that stands alone is assigned
+pub bare_input : (p : Program) (b : ℕ) (body : Body) (c : Contract) (library own : List (List (Option ℤ))) (v : ℕ) → body.inner ≡ None → body.outer ≡ Some c
+    → IsTrue (is_library p v) → IsListed p is_input c.globals v → 0 < cells_of p v → IsBare p library v → IsEntry p b body library own → ⊥
+bare_input p b body c library own v inner outer l listed some bare entry =
+    let input : IsInputBy p b body.inner body.outer v = subst (λ (i : Option Contract). IsInputBy p b i body.outer v) (sym inner) (subst (λ (o : Option Contract). IsInputBy p b None o v) (sym outer) listed) in
+    let full = entry.inputs v l input 0 some in
+    let z : Some None ≡ Some (Some full.0) = sym (bare 0 some) ∙ full.1 in
+    cc
 
 -- both kinds of runs are clean
 pub clean_runs : (p : Program) → IsWellFormed p → IsProper p → IsSilent p → HasCleanRuns p

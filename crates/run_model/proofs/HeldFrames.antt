@@ -32,10 +32,6 @@ step_is p library f front s e plain o is =
     ap (λ r. held_items p r []) e ∙ (held_more p front s [] ∙ push_plain (code_of p.exprs p.stmts s) (held_items p front []) plain) in
     ap (item_step p library (held_frame p f)) left ∙ ap (with_effect p library (held_frame p f)) (sym is)
 
--- a frame in which nothing remains makes no step
-pub ended_is : (p : Program) (library : List (List (Option ℤ))) (f : HeldFrame) → f.rest.items ≡ [] → frame_step p library (held_frame p f) ≡ Ended
-ended_is p library f e = ap (λ r. item_step p library (held_frame p f) (held_items p r [])) e
-
 abbrev frame_with : ℕ → List Item → List (List (Option ℤ)) → Frame (Unit {0})
 frame_with b left own = record { body = b; left = left; own = own; note = tt }
 

@@ -94,10 +94,6 @@ plain_node expr code (CoreStmt.Clock to) h = tt
 plain_node expr code CoreStmt.Fail h = tt
 plain_node expr code (CoreStmt.Seq list) h = absurd (h list refl)
 
-pub codes_are_no_step : (code : StmtNo → Code) (list : List StmtNo) → IsPlain (codes_at code list) → ⊥
-codes_are_no_step code [] h = h
-codes_are_no_step code (s ∷ ss) h = h
-
 -- the last, behind the others
 pub split_last : {X : Type 0} → (items : List X) (x : X) → slice_get items (length items - 1) ≡ Some x → items ≡ take (length items - 1) items ++ x ∷ []
 split_last {X} [] x h = let n : Option X = None in let z : n ≡ Some x = h in cc
