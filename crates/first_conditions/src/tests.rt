@@ -210,8 +210,10 @@ fn open_ifs_have_a_limit(rt: HostRuntime) -> Result<(), Fail> {
     let alloc = rt.alloc();
     let deepest = in_ifs(alloc, 128)?;
     assert_eq!(rt; answer_of(alloc, deepest.as_bytes())?, Answer::Met(Some(0)));
-    let deeper = in_ifs(alloc, 129)?;
-    assert_eq!(rt; answer_of(alloc, deeper.as_bytes())?, Answer::Unspelled);
+    for depth in [129, 20_000] {
+        let deeper = in_ifs(alloc, depth)?;
+        assert_eq!(rt; answer_of(alloc, deeper.as_bytes())?, Answer::Unspelled);
+    }
     Ok(())
 }
 
