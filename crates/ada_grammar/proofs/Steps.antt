@@ -139,6 +139,26 @@ if_cases : (m : Bool) (b : Body) {y : Phrase} {w : List Lexeme} → Fits (if m t
 if_cases true b h = (refl, h)
 if_cases false b h = elim h [ ]
 
+-- a test, unless nothing is left either way
+abbrev pub tested : Bool → Body → Body → Body
+tested d b c = if is_never b then (if is_never c then Never else When d b c) else When d b c
+
+tested_at : (m n : Bool) (d : Bool) (b c : Body) {y : Phrase} {w : List Lexeme} → (m ≡ true → is_never b ≡ true) → (n ≡ true → is_never c ≡ true) → Fits (When d b c) y w → Fits (if m then (if n then Never else When d b c) else When d b c) y w
+tested_at true true d b c f g h = absurd (elim (when_cases d h) [ inl x ↦ empty b (f refl) x.1 | inr x ↦ empty c (g refl) x.1 ])
+tested_at true false d b c f g h = h
+tested_at false n d b c f g h = h
+
+into_tested : (d : Bool) (b c : Body) {y : Phrase} {w : List Lexeme} → Fits (When d b c) y w → Fits (tested d b c) y w
+into_tested d b c h = tested_at (is_never b) (is_never c) d b c (λ e. e) (λ e. e) h
+
+untested_at : (m n : Bool) (d : Bool) (b c : Body) {y : Phrase} {w : List Lexeme} → Fits (if m then (if n then Never else When d b c) else When d b c) y w → Fits (When d b c) y w
+untested_at true true d b c h = elim h [ ]
+untested_at true false d b c h = h
+untested_at false n d b c h = h
+
+tested_cases : (d : Bool) (b c : Body) {y : Phrase} {w : List Lexeme} → Fits (tested d b c) y w → ((d ≡ true) × Fits b y w) ⊎ ((d ≡ false) × Fits c y w)
+tested_cases d b c h = when_cases d (untested_at (is_never b) (is_never c) d b c h)
+
 -- what is left behind a token of this class
 abbrev pub after : Class → Lexeme → Body → Body
 after c t Never = Never
@@ -147,7 +167,7 @@ after c t (Take x k) = if same_class c x then k t else Never
 after c t (Call p k) = Never
 after c t (Rest p) = Never
 after c t (Or b d) = choice (after c t b) (after c t d)
-after c t (When d b e) = When d (after c t b) (after c t e)
+after c t (When d b e) = tested d (after c t b) (after c t e)
 
 -- no token of the class begins the body, and an end before it is excluded
 abbrev pub closed : Part → Class → Body → Bool
@@ -170,7 +190,7 @@ into_after c t (Take x k) e h = let z = if_cases (same_class c x) (k t) h in tak
 into_after c t (Call p k) e h = elim h [ ]
 into_after c t (Rest p) e h = elim h [ ]
 into_after c t (Or b d) e h = elim (choice_cases (after c t b) (after c t d) h) [ inl g ↦ left (into_after c t b e g) | inr g ↦ right (into_after c t d e g) ]
-into_after c t (When d b f) e h = elim (when_cases d h) [ inl g ↦ when_yes d g.0 (into_after c t b e g.1) | inr g ↦ when_no d g.0 (into_after c t f e g.1) ]
+into_after c t (When d b f) e h = elim (tested_cases d (after c t b) (after c t f) h) [ inl g ↦ when_yes d g.0 (into_after c t b e g.1) | inr g ↦ when_no d g.0 (into_after c t f e g.1) ]
 
 not_both : (a b : Bool) → (not a && b) ≡ true → a ≡ true → ⊥
 not_both true b m h = cc
@@ -212,9 +232,9 @@ behind part c t r w is m e free (left {b} {c = d} h) =
 behind part c t r w is m e free (right {b} {c = d} h) =
     let z = behind part c t r w is (and_right (ready part c b) (ready part c d) m) e free h in (z.0, z.1, choice_right (after c t b) (after c t d) z.2)
 behind part c t r w is m e free (yes {b} {c = d} h) =
-    let z = behind part c t r w is (and_left (ready part c b) (ready part c d) m) e free h in (z.0, z.1, yes z.2)
+    let z = behind part c t r w is (and_left (ready part c b) (ready part c d) m) e free h in (z.0, z.1, into_tested true (after c t b) (after c t d) (yes z.2))
 behind part c t r w is m e free (no {b} {c = d} h) =
-    let z = behind part c t r w is (and_right (ready part c b) (ready part c d) m) e free h in (z.0, z.1, no z.2)
+    let z = behind part c t r w is (and_right (ready part c b) (ready part c d) m) e free h in (z.0, z.1, into_tested false (after c t b) (after c t d) (no z.2))
 
 -- the token that was looked for is there, and is read
 pub seen : {part : Part} {p q z : Point} {b : Body} {c : Class} {t : Lexeme} → Awaits part p q b → Takes c t q z → (ready part c b && inhabited (after c t b)) ≡ true → Awaits part p z (after c t b)
@@ -253,7 +273,7 @@ without c (Take x k) = unless (always c (Take x k)) (Take x k)
 without c (Call p k) = unless (always c (Call p k)) (Call p k)
 without c (Rest p) = unless (always c (Rest p)) (Rest p)
 without c (Or b d) = choice (without c b) (without c d)
-without c (When d b e) = When d (without c b) (without c e)
+without c (When d b e) = tested d (without c b) (without c e)
 
 not_null : (a b : Bool) → (not a && b) ≡ true → a ≡ true → ⊥
 not_null true b m h = cc
@@ -281,8 +301,8 @@ still c r q at other (rest {p} {y} {w} h) =
     stays c (Rest p) (always c (Rest p)) r w q (λ e. e) at other (starts all) all
 still c r q at other (left {b} {c = d} h) = choice_left (without c b) (without c d) (still c r q at other h)
 still c r q at other (right {b} {c = d} h) = choice_right (without c b) (without c d) (still c r q at other h)
-still c r q at other (yes h) = yes (still c r q at other h)
-still c r q at other (no h) = no (still c r q at other h)
+still c r q at other (yes {b} {c = d} h) = into_tested true (without c b) (without c d) (yes (still c r q at other h))
+still c r q at other (no {b} {c = d} h) = into_tested false (without c b) (without c d) (no (still c r q at other h))
 
 kept : (m : Bool) (b : Body) {y : Phrase} {w : List Lexeme} → Fits (unless m b) y w → Fits b y w
 kept true b h = elim h [ ]
@@ -295,7 +315,7 @@ back_from c (Take x k) h = kept (always c (Take x k)) (Take x k) h
 back_from c (Call p k) h = kept (always c (Call p k)) (Call p k) h
 back_from c (Rest p) h = kept (always c (Rest p)) (Rest p) h
 back_from c (Or b d) h = elim (choice_cases (without c b) (without c d) h) [ inl g ↦ left (back_from c b g) | inr g ↦ right (back_from c d g) ]
-back_from c (When d b e) h = elim (when_cases d h) [ inl g ↦ when_yes d g.0 (back_from c b g.1) | inr g ↦ when_no d g.0 (back_from c e g.1) ]
+back_from c (When d b e) h = elim (tested_cases d (without c b) (without c e) h) [ inl g ↦ when_yes d g.0 (back_from c b g.1) | inr g ↦ when_no d g.0 (back_from c e g.1) ]
 
 -- the token that was looked for is not there
 pub unseen : {part : Part} {p q : Point} {b : Body} {c : Class} → Awaits part p q b → NotFirst c q.rest → Awaits part p q (without c b)
