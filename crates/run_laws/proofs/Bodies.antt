@@ -16,7 +16,8 @@ use Rattle.run_model.specs.Runs.{IsAssigned, IsSized}
 use Rattle.run_laws.specs.Clean.{Allows, IsAmong, IsCleanStack, IsGlobalOf, IsListed, is_input, is_output}
 use Rattle.run_laws.specs.Laws.{IsSilent}
 use Rattle.run_laws.specs.Unassigned.{all}
-use Rattle.run_laws.proofs.Cells.{among_left, among_or_not, among_parts, among_right, among_row, bare_behind, library_sized, own_sized, seen_here, seen_other, seen_sized, written_length}
+use Rattle.run_laws.proofs.Cells.{among_left, among_or_not, among_parts, among_right, among_row, bare_behind, library_sized, own_sized, seen_here, seen_other}
+use Rattle.run_model.proofs.Lists.{seen_sized, written_length}
 use Rattle.run_laws.proofs.Names.{IsSound}
 use Rattle.run_laws.proofs.Rows.{reads_listed, writes_listed}
 use Rattle.run_laws.proofs.Touches.{comes, named_of, site_of, whole_first, write_of}

@@ -15,7 +15,7 @@ use Rattle.run_laws.specs.Clean.{AreClean, IsCleanStack, with_writes}
 use Rattle.run_laws.specs.Laws.{IsSilent, RunsAreClean, alone}
 use Rattle.run_laws.specs.Unassigned.{AreElaborated, all, opens_behind}
 use Rattle.run_laws.proofs.Bodies.{Fits, Loose, clean, done, frame, steps}
-use Rattle.run_laws.proofs.Cells.{bare_sized}
+use Rattle.run_model.proofs.Lists.{bare_sized}
 use Rattle.run_laws.proofs.Names.{IsSound, sound_body}
 use Rattle.run_laws.proofs.Starts.{Open, loose_of, root_begins}
 use Rattle.run_laws.proofs.Walks.{Below, Goes, none}

@@ -9,7 +9,7 @@ use Rattle.run_model.specs.Machine.{bare_leaves, body_code, is_library, push}
 use Rattle.run_model.specs.Runs.{IsSized}
 use Rattle.run_laws.specs.Unassigned.{all, behind, opens, opens_behind, sites}
 use Rattle.run_laws.proofs.Bodies.{Fits, Loose, Unwritten, frame, read_by, written_by}
-use Rattle.run_laws.proofs.Cells.{bare_sized}
+use Rattle.run_model.proofs.Lists.{bare_sized}
 use Rattle.run_laws.proofs.Names.{IsSound, body_code_is}
 use Rattle.run_laws.proofs.Walks.{Below, Goes, Within, behind_within, goes_push, none, only_next, sites_empty, sites_parts, sites_within}
 
