@@ -16,7 +16,7 @@ use Rattle.ada_grammar.specs.declared.nodes.Form.{Form}
 use Rattle.ada_grammar.specs.declared.tokens.Class.{Class}
 use Rattle.ada_grammar.specs.declared.tokens.Cursor.{Cursor}
 use Rattle.ada_grammar.specs.Lexemes.{Lexeme}
-use Rattle.ada_grammar.specs.Phrases.{Phrase, Tree, node, named, join}
+use Rattle.ada_grammar.specs.Phrases.{Phrase, Tree, none, node, named, join}
 use Rattle.ada_grammar.specs.Built.{AreBelow, Extends, phrase, trees, tree_at, trees_at}
 use Rattle.ada_grammar.specs.Taking.{Accepts, Looks, NotFirst, IsTaken, Passes, Takes}
 use Rattle.ada_grammar.proofs.NodeTrees.{stays}
@@ -113,7 +113,7 @@ unsuffixed m a ts cursor built {o} h e = subst (λ (z : Option (Built × Cursor 
 
 -- the phrase of a node that was there
 pub phrase_stays : {old new : List ExprNode} → Extends old new → (x : Built) → x.node.0 < length (trees old) → phrase (trees new) x ≡ phrase (trees old) x
-phrase_stays {old} {new} g x h = ap (λ (z : Tree). record { tree = z; span = x.span; form = x.form }) (stays x.node g h)
+phrase_stays {old} {new} g x h = ap (λ (z : Tree). record { tree = z; span = x.span; form = x.form; children = none }) (stays x.node g h)
 
 -- a node without children
 pub over_none : (built : List Tree) {xs : List ExprNo} (form : Form) (k : ExprKind) (s : Span) {x : Phrase} → x ≡ node form k s (trees_at built xs) → xs ≡ [] → x ≡ node form k s []

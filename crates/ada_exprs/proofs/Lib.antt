@@ -1,3 +1,4 @@
 pub mod Found
+pub mod Holding
 pub mod Suffixing
 pub mod Telling

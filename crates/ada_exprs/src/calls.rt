@@ -1,23 +1,22 @@
 ghost use Rattle.std.specs.Prelude.{◌≡◌, ◌≤◌, List, length};
-ghost use Rattle.ada_exprs.specs.Calls.{before_range, outermost};
 ghost use Rattle.ada_grammar.specs.Answer.{IsAnswer};
 ghost use Rattle.ada_grammar.specs.Built.{Extends, trees};
 ghost use Rattle.ada_grammar.specs.Grammar as parts;
 ghost use Rattle.ada_grammar.specs.Grammar.{Part};
 ghost use Rattle.ada_grammar.specs.Lexemes.{lexemes};
+ghost use Rattle.ada_grammar.specs.Limits.{before_range, outermost};
 ghost use Rattle.ada_grammar.specs.Phrases.{Tree};
 ghost use Rattle.ada_grammar.specs.Reading.{Answers};
 ghost use Rattle.ada_grammar.specs.declared.tokens.Cursor.{Cursor};
 
 use crate::readers;
-use ada_grammar::{Built, Cursor, Fault, Nesting, limit_fault, syntax_fault};
+use ada_grammar::{Built, Cursor, Fault, Nesting, phase_fault};
 use ada_tree::{Tokens, Units};
 use spark_base::ExprNo;
 use spark_messages::PhaseFault;
 use std::alloc::Global;
 
 /// The answer of a call, from that of a reader.
-#[tactic(auto, using(crate::proofs::Telling::told_syntax, crate::proofs::Telling::told_limit, crate::proofs::Telling::told_nothing))]
 fn told(
     alloc: Global,
     tokens: &Tokens,
@@ -28,9 +27,7 @@ fn told(
 {
     match answer {
         Ok((read, next)) => Ok((read.node, next.at)),
-        Err(Fault::NoMemory) => Err(PhaseFault::NoMemory),
-        Err(Fault::Syntax(at)) => Err(syntax_fault(alloc, tokens, at)),
-        Err(Fault::Limit(at)) => Err(limit_fault(alloc, tokens, at)),
+        Err(fault) => Err(phase_fault(alloc, tokens, fault)),
     }
 }
 

@@ -5,6 +5,7 @@
 
 mod calls;
 mod operators;
+pub mod parts;
 pub mod readers;
 #[cfg(test)]
 mod tests;

@@ -812,19 +812,7 @@ fn read_suffix(
 {
     if let Some((_, next)) = accept(tokens, cursor, Class::Mark(Mark::Dot))? {
         let (token, end) = expect(tokens, next, Class::Word)?;
-        let children = one(alloc, left.node)?;
-        let form = selected_form(left.form);
-        let span = join(left.span, token.span);
-        let node = add_named(
-            alloc,
-            exprs,
-            tokens,
-            form,
-            ExprKind::Selected,
-            token,
-            span,
-            children,
-        )?;
+        let node = add_selected(alloc, exprs, tokens, left, token)?;
         return Ok(Some((node, end, true)));
     }
     if let Some((_, next)) = accept(tokens, cursor, Class::Mark(Mark::Tick))? {
@@ -986,6 +974,46 @@ pub fn read_name(
     ensures reads { Answers (parts.Name) (lexemes tokens.now) cursor (trees exprs.new) result }
 {
     let (token, next) = expect(tokens, cursor, Class::Word)?;
+    read_name_from(alloc, exprs, tokens, next, token)
+}
+
+/// The rest of a name, behind its first word.
+pub fn read_name_from(
+    alloc: Global,
+    exprs: &mut Items<ExprNode>,
+    tokens: &Tokens,
+    cursor: Cursor,
+    first: Token,
+) -> Result<(Built, Cursor), Fault>
+    requires at { cursor.at ≤ length (lexemes tokens.now) }
+    ensures extends { Extends exprs.old exprs.new }
+    ensures reads { Answers (parts.Suffixes true (phrases.identifier (lexeme tokens.now.source first))) (lexemes tokens.now) cursor (trees exprs.new) result }
+{
+    let node = add_named(
+        alloc,
+        exprs,
+        tokens,
+        Form::Identifier,
+        ExprKind::Identifier,
+        first,
+        first.span,
+        Items::new(alloc),
+    )?;
+    read_suffixes(alloc, exprs, tokens, cursor, node)
+}
+
+/// Words parted by points.
+pub fn read_unit_name(
+    alloc: Global,
+    exprs: &mut Items<ExprNode>,
+    tokens: &Tokens,
+    cursor: Cursor,
+) -> Result<(Built, Cursor), Fault>
+    requires at { cursor.at ≤ length (lexemes tokens.now) }
+    ensures extends { Extends exprs.old exprs.new }
+    ensures reads { Answers (parts.UnitName) (lexemes tokens.now) cursor (trees exprs.new) result }
+{
+    let (token, next) = expect(tokens, cursor, Class::Word)?;
     let node = add_named(
         alloc,
         exprs,
@@ -996,7 +1024,79 @@ pub fn read_name(
         token.span,
         Items::new(alloc),
     )?;
-    read_suffixes(alloc, exprs, tokens, next, node)
+    read_points(alloc, exprs, tokens, next, node)
+}
+
+/// All points behind a name, each with its word.
+fn read_points(
+    alloc: Global,
+    exprs: &mut Items<ExprNode>,
+    tokens: &Tokens,
+    cursor: Cursor,
+    left: Built,
+) -> Result<(Built, Cursor), Fault>
+    requires at { cursor.at ≤ length (lexemes tokens.now) }
+    requires left { left.node.0 < length (trees exprs.old) }
+    ensures extends { Extends exprs.old exprs.new }
+    ensures reads { Answers (parts.Points (phrase (trees exprs.old) left)) (lexemes tokens.now) cursor (trees exprs.new) result }
+{
+    let mut left = left;
+    let mut next = cursor;
+    while let Some((_, behind)) = accept(tokens, next, Class::Mark(Mark::Dot))? {
+        let (token, end) = expect(tokens, behind, Class::Word)?;
+        left = add_selected(alloc, exprs, tokens, left, token)?;
+        next = end;
+    }
+    Ok((left, next))
+}
+
+/// A subtype, with or without a range.
+pub fn read_indication(
+    alloc: Global,
+    exprs: &mut Items<ExprNode>,
+    tokens: &Tokens,
+    cursor: Cursor,
+) -> Result<(Built, Cursor), Fault>
+    requires at { cursor.at ≤ length (lexemes tokens.now) }
+    ensures extends { Extends exprs.old exprs.new }
+    ensures reads { Answers (parts.Indication) (lexemes tokens.now) cursor (trees exprs.new) result }
+{
+    let (mark, next) = read_unit_name(alloc, exprs, tokens, cursor)?;
+    rest_of_indication(alloc, exprs, tokens, next, mark)
+}
+
+/// A subtype behind its mark.
+fn rest_of_indication(
+    alloc: Global,
+    exprs: &mut Items<ExprNode>,
+    tokens: &Tokens,
+    cursor: Cursor,
+    mark: Built,
+) -> Result<(Built, Cursor), Fault>
+    requires at { cursor.at ≤ length (lexemes tokens.now) }
+    requires mark { mark.node.0 < length (trees exprs.old) }
+    ensures extends { Extends exprs.old exprs.new }
+    ensures reads { Answers (parts.IndicationFrom (phrase (trees exprs.old) mark)) (lexemes tokens.now) cursor (trees exprs.new) result }
+{
+    let Some((_, next)) = accept(tokens, cursor, Class::Reserved(Reserved::Range))? else {
+        let kind = ExprKind::SubtypeIndication { has_range: false };
+        let node = add_one(alloc, exprs, Form::Simple, kind, mark.span, mark.node)?;
+        return Ok((node, cursor));
+    };
+    let (low, next) = read_simple(alloc, exprs, tokens, next)?;
+    let (_, next) = expect(tokens, next, Class::Mark(Mark::Dots))?;
+    let (high, end) = read_simple(alloc, exprs, tokens, next)?;
+    let node = add_three(
+        alloc,
+        exprs,
+        Form::Simple,
+        ExprKind::SubtypeIndication { has_range: true },
+        join(mark.span, high.span),
+        mark.node,
+        low.node,
+        high.node,
+    )?;
+    Ok((node, end))
 }
 
 /// A discrete range.
@@ -1092,6 +1192,33 @@ fn rest_of_subtype(
         indication.node,
     )?;
     Ok((node, end))
+}
+
+/// Adds a selection of this word from a name.
+fn add_selected(
+    alloc: Global,
+    exprs: &mut Items<ExprNode>,
+    tokens: &Tokens,
+    left: Built,
+    name: Token,
+) -> Result<Built, NoMemory>
+    requires left { left.node.0 < length (trees exprs.old) }
+    ensures extends { Extends exprs.old exprs.new }
+    ensures within { IfOk result (λ x. x.node.0 < length (trees exprs.new)) }
+    ensures builds { IfOk result (λ x. phrase (trees exprs.new) x ≡ phrases.selected (phrase (trees exprs.old) left) (lexeme tokens.now.source name)) }
+    ensures err { OnErr result (exprs.new ≡ exprs.old) }
+{
+    let children = one(alloc, left.node)?;
+    add_named(
+        alloc,
+        exprs,
+        tokens,
+        selected_form(left.form),
+        ExprKind::Selected,
+        name,
+        join(left.span, name.span),
+        children,
+    )
 }
 
 /// Adds an attribute without arguments.

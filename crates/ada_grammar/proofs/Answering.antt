@@ -17,13 +17,13 @@ use Rattle.ada_grammar.proofs.Steps.{good, ends_in, stuck, tail, barred, barred_
 use Rattle.ada_grammar.proofs.Begins.{inhabited}
 use Rattle.ada_grammar.proofs.NodeTrees.{stays}
 
-refuses : {part inner : Part} (ts : List Lexeme) (cursor middle : Cursor) {k : Phrase → Body} (e : Fault)
+pub refuses : {part inner : Part} (ts : List Lexeme) (cursor middle : Cursor) {k : Phrase → Body} (e : Fault)
     → Awaits part (point ts cursor) (point ts middle) (Call inner k) → good part inner k → Fails inner ts middle e → Fails part ts cursor e
 refuses ts cursor middle faults.NoMemory s check i = tt
 refuses ts cursor middle (faults.Syntax n) s check i = record { ends = i.ends; level = i.level; sticks = stuck s i.sticks check }
 refuses ts cursor middle (faults.Limit n) s check i = record { ends = i.ends; bars = barred s i.bars check }
 
-refuses_last : {part inner : Part} (ts : List Lexeme) (cursor middle : Cursor) (e : Fault)
+pub refuses_last : {part inner : Part} (ts : List Lexeme) (cursor middle : Cursor) (e : Fault)
     → Awaits part (point ts cursor) (point ts middle) (Rest inner) → ends_in part inner ≡ true → Fails inner ts middle e → Fails part ts cursor e
 refuses_last ts cursor middle faults.NoMemory s check i = tt
 refuses_last ts cursor middle (faults.Syntax n) s check i = record { ends = i.ends; level = i.level; sticks = tail s i.sticks check }

@@ -2,6 +2,9 @@ pub mod Ahead
 pub mod Answering
 pub mod Begins
 pub mod EverySort
+pub mod Joining
 pub mod NodeTrees
 pub mod Plain
+pub mod Standing
 pub mod Steps
+pub mod Telling

@@ -4,8 +4,8 @@ use Rattle.std.proofs.Math.ListN.{get_or-append}
 use Rattle.std.proofs.Math.Seq.{get_or-append_seam}
 use Rattle.spark_base.specs.declared.numbers.ExprNo.{ExprNo}
 use Rattle.ada_tree.specs.declared.expressions.ExprNode.{ExprNode}
-use Rattle.ada_grammar.specs.Phrases.{Tree}
-use Rattle.ada_grammar.specs.Built.{nothing, tree_at, trees_at, tree_of, trees_from, trees, AreBelow, AreOrdered, Extends, Adds}
+use Rattle.ada_grammar.specs.Phrases.{Tree, nothing}
+use Rattle.ada_grammar.specs.Built.{tree_at, trees_at, tree_of, trees_from, trees, AreBelow, AreOrdered, Extends, Adds}
 
 trees_from_append : (built : List Tree) (ns ms : List ExprNode) → trees_from built (ns ++ ms) ≡ trees_from (trees_from built ns) ms
 trees_from_append built [] ms = refl

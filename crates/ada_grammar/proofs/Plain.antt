@@ -4,7 +4,7 @@ use Rattle.ada_grammar.specs.Lexemes.{Lexeme}
 use Rattle.ada_grammar.specs.Phrases.{Phrase}
 use Rattle.ada_grammar.specs.Grammar.{Part, Body, Never, Gives, Fits, gives, Spells}
 use Rattle.ada_grammar.specs.Reading.{Point, At, Awaits, Reads}
-use Rattle.ada_grammar.specs.Answer.{Longest, IsRead, IsRefused}
+use Rattle.ada_grammar.specs.Answer.{Longest, IsPhrase, IsRead, IsRefused}
 
 -- where the rest takes no token, the front is the longest
 front : {part : Part} {p q : Point} {b : Body} (a : Awaits part p q b) → ((y : Phrase) (v : List Lexeme) → Fits b y v → v ≡ []) → Longest part p.level p.rest a.word q.rest
@@ -25,14 +25,22 @@ given gives = (refl, refl)
 sentence_at : {part : Part} {p q : Point} {b : Body} (a : Awaits part p q b) (y : Phrase) → Spells part y a.word → (v : List Lexeme) × Fits b y v
 sentence_at a y h = let x = a.only y a.word [] [] tt refl tt h in (x.0, x.3)
 
-pub plain_read : {part : Part} {p q : Point} {x : Phrase} → Reads part p q x → IsRead part p.level p.rest q.rest x.tree
-plain_read {part} {p} {q} {x} a = record {
+pub plain_phrase : {part : Part} {p q : Point} {x : Phrase} → Reads part p q x → IsPhrase part p.level p.rest q.rest x
+plain_phrase {part} {p} {q} {x} a = record {
   word = a.word;
   front = front a (λ y v h. (given h).1);
-  phrase = x;
-  tree = refl;
   spells = subst (λ (z : List Lexeme). Spells part x z) (append-nil a.word) (a.made x [] gives);
   one = λ y h. (given (sentence_at a y h).1).0;
+}
+
+pub plain_read : {part : Part} {p q : Point} {x : Phrase} → Reads part p q x → IsRead part p.level p.rest q.rest x.tree
+plain_read {part} {p} {q} {x} a = let i = plain_phrase a in record {
+  word = i.word;
+  front = i.front;
+  phrase = x;
+  tree = refl;
+  spells = i.spells;
+  one = i.one;
 }
 
 pub plain_refused : {part : Part} {p q : Point} → Awaits part p q Never → IsRefused part p.level p.rest q.rest

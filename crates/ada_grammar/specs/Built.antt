@@ -2,18 +2,9 @@
 use Rattle.std.specs.Prelude.{◌≡◌, ℕ, ◌+◌, length, ◌<◌, List, [], ◌∷◌, ◌++◌, slice_index_or, Option, Some, None}
 use Rattle.spark_base.specs.declared.name.Name.{Name}
 use Rattle.spark_base.specs.declared.numbers.ExprNo.{ExprNo}
-use Rattle.spark_base.specs.declared.numbers.Span.{Span}
-use Rattle.ada_tree.specs.declared.expressions.ExprKind.TheVariants as kinds
 use Rattle.ada_tree.specs.declared.expressions.ExprNode.{ExprNode}
 use Rattle.ada_grammar.specs.declared.nodes.Built.{Built}
-use Rattle.ada_grammar.specs.Phrases.{Head, Tree, Root, with_all, Phrase}
-
--- what stands for a node that is not there
-abbrev pub nowhere : Span
-nowhere = record { file = record { 0 = 0 }; from = record { line = 0; col = 0 }; to = record { line = 0; col = 0 } }
-
-abbrev pub nothing : Tree
-nothing = Root (record { kind = kinds.EndName; span = nowhere; name = None })
+use Rattle.ada_grammar.specs.Phrases.{OfExpr, Head, Tree, Root, with_all, Phrase, none, nothing}
 
 -- the tree at a number
 abbrev pub tree_at : List Tree → ExprNo → Tree
@@ -29,7 +20,7 @@ written (Some n) = Some n.written
 
 -- a node without its children
 abbrev pub head : ExprNode → Head
-head n = record { kind = n.kind; span = n.span; name = written n.name }
+head n = record { kind = OfExpr n.kind; span = n.span; name = written n.name }
 
 -- the tree of a node, over those that were built before
 abbrev pub tree_of : List Tree → ExprNode → Tree
@@ -45,7 +36,7 @@ trees nodes = trees_from [] nodes
 
 -- the phrase of a node that was built
 abbrev pub phrase : List Tree → Built → Phrase
-phrase built x = record { tree = tree_at built x.node; span = x.span; form = x.form }
+phrase built x = record { tree = tree_at built x.node; span = x.span; form = x.form; children = none }
 
 -- each number is below the bound
 abbrev pub AreBelow : ℕ → List ExprNo → Type 0

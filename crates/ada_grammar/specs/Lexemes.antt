@@ -20,4 +20,4 @@ abbrev pub lexemes : Tokens → List Lexeme
 lexemes tokens = map (lexeme tokens.source) tokens.list
 
 abbrev pub sort : Lexeme → Sort
-sort t = sort_of t.token.kind
+sort t = sort_of t.token.kind t.text

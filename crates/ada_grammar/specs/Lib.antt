@@ -5,6 +5,7 @@ pub mod Phrases
 pub mod Built
 pub mod Grammar
 pub mod Reading
+pub mod Standing
 pub mod Taking
 pub mod Refusals
 pub mod Answer

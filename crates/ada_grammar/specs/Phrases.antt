@@ -1,6 +1,10 @@
 -- What parts of the grammar are read as.
 use Rattle.std.specs.Prelude.{ℕ, Bool, true, false, List, [], ◌∷◌, ◌++◌, Option, Some, None}
 use Rattle.spark_base.specs.declared.numbers.Span.{Span}
+use Rattle.ada_tree.specs.declared.statements.StmtKind.{StmtKind}
+use Rattle.ada_tree.specs.declared.declarations.DeclKind.{DeclKind}
+use Rattle.ada_tree.specs.declared.aspects.AspectKind.{AspectKind}
+use Rattle.ada_tree.specs.declared.units.UnitKind.{UnitKind}
 use Rattle.ada_tree.specs.declared.expressions.ExprKind.{ExprKind}
 use Rattle.ada_tree.specs.declared.expressions.ExprKind.TheVariants as kinds
 use Rattle.ada_tree.specs.declared.expressions.LogicalOperator.{LogicalOperator}
@@ -18,9 +22,17 @@ use Rattle.ada_grammar.specs.declared.nodes.Form.{Form}
 use Rattle.ada_grammar.specs.declared.nodes.Form.TheVariants as forms
 use Rattle.ada_grammar.specs.Lexemes.{Lexeme}
 
+-- what a node is, of each type of node
+pub data NodeKind : Type 0 where
+  OfExpr : ExprKind → NodeKind
+  OfStmt : StmtKind → NodeKind
+  OfDecl : DeclKind → NodeKind
+  OfAspect : AspectKind → NodeKind
+  OfUnit : UnitKind → NodeKind
+
 -- what a node has beside its children
 pub record Head : Type 0 where
-  pub kind : ExprKind
+  pub kind : NodeKind
   pub span : Span
   pub name : Option (List ℕ)
 
@@ -33,11 +45,93 @@ abbrev pub with_all : Tree → List Tree → Tree
 with_all t [] = t
 with_all t (c ∷ cs) = with_all (With t c) cs
 
--- a tree, all that it was read from, and what it may be taken for
+-- what was read of a node that is still open
+pub record Children : Type 0 where
+  pub exprs : List Tree
+  pub stmts : List Tree
+  pub decls : List Tree
+  pub aspects : List Tree
+  pub units : List Tree
+
+abbrev pub none : Children
+none = record { exprs = []; stmts = []; decls = []; aspects = []; units = [] }
+
+-- a tree more, at the end of the list of its type
+abbrev pub with_expr : Children → Tree → Children
+with_expr d t = record d { exprs = d.exprs ++ t ∷ [] }
+
+abbrev pub with_stmt : Children → Tree → Children
+with_stmt d t = record d { stmts = d.stmts ++ t ∷ [] }
+
+abbrev pub with_decl : Children → Tree → Children
+with_decl d t = record d { decls = d.decls ++ t ∷ [] }
+
+abbrev pub with_aspect : Children → Tree → Children
+with_aspect d t = record d { aspects = d.aspects ++ t ∷ [] }
+
+abbrev pub with_unit : Children → Tree → Children
+with_unit d t = record d { units = d.units ++ t ∷ [] }
+
+-- a tree, all that it was read from, and what it may be taken for; or what was read of a node that is still open
 pub record Phrase : Type 0 where
   pub tree : Tree
   pub span : Span
   pub form : Form
+  pub children : Children
+
+-- what stands for a node that is not there
+abbrev pub nowhere : Span
+nowhere = record { file = record { 0 = 0 }; from = record { line = 0; col = 0 }; to = record { line = 0; col = 0 } }
+
+abbrev pub nothing : Tree
+nothing = Root (record { kind = OfExpr kinds.EndName; span = nowhere; name = None })
+
+-- children of a node that is still open, and no node
+abbrev pub gives : Children → Phrase
+gives d = record { tree = nothing; span = nowhere; form = forms.Simple; children = d }
+
+-- what was read and leaves no node
+abbrev pub blank : Phrase
+blank = gives none
+
+-- a node over its children: first the expressions, then the statements, the declarations and the aspects
+abbrev pub node_tree : NodeKind → Span → Option (List ℕ) → Children → Tree
+node_tree kind span name d = with_all (Root (record { kind = kind; span = span; name = name })) (d.exprs ++ (d.stmts ++ (d.decls ++ d.aspects)))
+
+-- a node with the name that a token has, and which stands where the token does
+abbrev pub named_tree : NodeKind → Lexeme → Children → Tree
+named_tree kind t own = node_tree kind t.token.span (Some t.text) own
+
+-- a statement of its own children, behind what was read before it
+abbrev pub statement : StmtKind → Span → Children → Children → Children
+statement kind span own d = with_stmt d (node_tree (OfStmt kind) span None own)
+
+abbrev pub named_statement : StmtKind → Lexeme → Children → Children → Children
+named_statement kind t own d = with_stmt d (named_tree (OfStmt kind) t own)
+
+abbrev pub declared : DeclKind → Lexeme → Children → Children → Children
+declared kind t own d = with_decl d (named_tree (OfDecl kind) t own)
+
+abbrev pub unnamed : DeclKind → Span → Children → Children → Children
+unnamed kind span own d = with_decl d (node_tree (OfDecl kind) span None own)
+
+-- a declaration for each name, in their order, each over the same children
+abbrev pub declared_all : DeclKind → List Lexeme → Children → Children → Children
+declared_all kind [] own d = d
+declared_all kind (t ∷ ts) own d = declared_all kind ts own (declared kind t own d)
+
+abbrev pub aspect : AspectKind → Span → Children → Children → Children
+aspect kind span own d = with_aspect d (node_tree (OfAspect kind) span None own)
+
+abbrev pub named_aspect : AspectKind → Lexeme → Children → Children → Children
+named_aspect kind t own d = with_aspect d (named_tree (OfAspect kind) t own)
+
+abbrev pub unit : UnitKind → Lexeme → Children → Children → Children
+unit kind t own d = with_unit d (named_tree (OfUnit kind) t own)
+
+-- the name behind an end
+abbrev pub end_name : Lexeme → Tree
+end_name t = Root (record { kind = OfExpr kinds.EndName; span = t.token.span; name = Some t.text })
 
 -- from the beginning of the one to the end of the other
 abbrev pub join : Span → Span → Span
@@ -45,11 +139,11 @@ join a b = record { file = a.file; from = a.from; to = b.to }
 
 -- a node without a name over these, which stands where all of it stands
 abbrev pub node : Form → ExprKind → Span → List Tree → Phrase
-node form kind span children = record { tree = with_all (Root (record { kind = kind; span = span; name = None })) children; span = span; form = form }
+node form kind span children = record { tree = with_all (Root (record { kind = OfExpr kind; span = span; name = None })) children; span = span; form = form; children = none }
 
 -- a node with the name that a token has, of which all stands at this span
 abbrev pub named : Form → ExprKind → Lexeme → Span → List Tree → Phrase
-named form kind t span children = record { tree = with_all (Root (record { kind = kind; span = t.token.span; name = Some t.text })) children; span = span; form = form }
+named form kind t span children = record { tree = with_all (Root (record { kind = OfExpr kind; span = t.token.span; name = Some t.text })) children; span = span; form = form; children = none }
 
 -- whether it is a simple expression: no relation, no membership and no chain of them
 abbrev pub is_simple : Form → Bool

@@ -1,9 +1,14 @@
 ghost use Rattle.std.specs.Prelude.{◌≡◌, IfOk, length};
-ghost use Rattle.ada_grammar.specs.Lexemes.{text_of};
+ghost use Rattle.ada_grammar.specs.Answer.{IsFault};
+ghost use Rattle.ada_grammar.specs.Grammar.{Part};
+ghost use Rattle.ada_grammar.specs.Lexemes.{lexemes, text_of};
+ghost use Rattle.ada_grammar.specs.Reading.{Fails};
 ghost use Rattle.ada_grammar.specs.Refusals as messages;
 ghost use Rattle.ada_grammar.specs.Refusals.{Tells};
+ghost use Rattle.ada_grammar.specs.declared.tokens.Cursor.{Cursor};
 
 use crate::nodes::text;
+use crate::tokens::Fault;
 use ada_tree::{Mark, Reserved, Token, TokenKind, Tokens};
 use spark_base::{Bytes, FileNo, NoMemory, Pos};
 use spark_messages::message_texts::{outside_text, refusal_text};
@@ -130,5 +135,17 @@ pub fn limit_fault(alloc: Global, tokens: &Tokens, at: usize) -> PhaseFault
     match limit_message(alloc, tokens, at) {
         Ok(message) => PhaseFault::Refused(message),
         Err(NoMemory) => PhaseFault::NoMemory,
+    }
+}
+
+/// The fault of a call, from that of its reader: S01 or U01, X02, or want of memory.
+#[tactic(auto, using(crate::proofs::Telling::told_syntax, crate::proofs::Telling::told_limit, crate::proofs::Telling::told_nothing))]
+pub fn phase_fault(alloc: Global, tokens: &Tokens, fault: Fault) -> PhaseFault
+    ensures { (part : Part) (cursor : Cursor) → Fails part (lexemes tokens.now) cursor fault → IsFault part cursor.nesting tokens.now cursor.at result }
+{
+    match fault {
+        Fault::NoMemory => PhaseFault::NoMemory,
+        Fault::Syntax(at) => syntax_fault(alloc, tokens, at),
+        Fault::Limit(at) => limit_fault(alloc, tokens, at),
     }
 }

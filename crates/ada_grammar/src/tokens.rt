@@ -1,10 +1,12 @@
-ghost use Rattle.std.specs.Prelude.{◌≡◌, false};
-ghost use Rattle.ada_grammar.specs.Lexemes.{lexemes, lexeme};
-ghost use Rattle.ada_grammar.specs.Limits as limits;
+ghost use Rattle.std.specs.Prelude.{◌≡◌};
+ghost use Rattle.ada_grammar.specs.Lexemes.{lexemes, lexeme, sort};
 ghost use Rattle.ada_grammar.specs.Sorts as sorts;
 ghost use Rattle.ada_grammar.specs.Taking.{Accepts, Expects};
+ghost use Rattle.ada_tree.specs.declared.identifiers.WordRole.TheVariants as roles;
+ghost use Rattle.ada_tree.specs.declared.token.TokenKind.TheVariants as kinds;
 
-use ada_tree::{Mark, Reserved, Token, TokenKind, Tokens};
+use crate::nodes::text;
+use ada_tree::{Mark, Reserved, Token, TokenKind, Tokens, WordRole, role_of};
 use spark_base::NoMemory;
 use std::alloc::{AllocError, AllocFailed};
 
@@ -24,6 +26,53 @@ pub enum Class {
     Multiplying,
     /// An identifier, or `Range`.
     AttributeName,
+    /// The mode of a Global: `Input`, `Output`, `In_Out`, `Proof_In`.
+    Mode,
+    /// The literal `True`.
+    True,
+    /// What a statement begins with.
+    Statement,
+    /// What a compound statement begins with that is no `if` and no `case`: behind a label alone.
+    Compound,
+    /// What a declaration begins with that a block may have.
+    LocalDeclaration,
+    /// What a declaration begins with.
+    Declaration,
+    /// What an operation of a protected type begins with.
+    Operation,
+    /// What the body of an operation of a protected type begins with.
+    OperationBody,
+    /// An operation, a component or a pragma.
+    PrivateItem,
+    /// What stands in a file by itself.
+    FileItem,
+    /// Any token but `(` and `)`.
+    Enclosed,
+    /// Any token but `(`, `)`, `,`, `;` and `is`.
+    Skipped,
+}
+
+/// The head of a loop, up to its `loop`.
+#[derive(Clone, Copy, Debug)]
+pub enum LoopHead {
+    /// No head is open.
+    Nothing,
+    /// Behind `for`, before its `in`.
+    Parameter,
+    /// Behind `while`, or the `in` of a `for`.
+    Scheme,
+}
+
+/// The token before, as far as it matters to the limits.
+#[derive(Clone, Copy, Debug)]
+pub enum Last {
+    Other,
+    Not,
+    And,
+    Or,
+    End,
+    Is,
+    Tick,
 }
 
 /// What the limits know of the tokens that were read.
@@ -35,8 +84,16 @@ pub struct Nesting {
     pub operators: usize,
     /// Where fewer parentheses than so many are open, two dots part two expressions; elsewhere they stand in one.
     pub parted: usize,
-    /// Whether the last token is `not`.
-    pub behind_not: bool,
+    /// How many compound statements are open.
+    pub compounds: usize,
+    /// How many of them are loops.
+    pub loops: usize,
+    /// Whether statements are read, and `begin` opens a block.
+    pub in_statements: bool,
+    /// Whether tokens are skipped: a pragma, or what stands behind `with`.
+    pub skips: bool,
+    pub head: LoopHead,
+    pub last: Last,
 }
 
 /// A place between tokens, from 0, and what the limits know there.
@@ -97,167 +154,164 @@ fn is_relational(mark: Mark) -> bool
     }
 }
 
-/// `*`, `/`, `mod` or `rem`.
-fn is_multiplying(kind: TokenKind) -> bool
-    ensures { result ≡ sorts.is_multiplying (sorts.sort_of kind) }
+/// Whether a reserved word is this one.
+fn is_reserved(found: Reserved, word: Reserved) -> bool
+    ensures { result ≡ sorts.same_word word found }
 {
-    match kind {
-        TokenKind::Mark(Mark::Star) => true,
-        TokenKind::Mark(Mark::Slash) => true,
-        TokenKind::Reserved(Reserved::Mod) => true,
-        TokenKind::Reserved(Reserved::Rem) => true,
+    found == word
+}
+
+/// Whether a mark is this one.
+fn is_mark(found: Mark, mark: Mark) -> bool
+    ensures { result ≡ sorts.same_mark mark found }
+{
+    found == mark
+}
+
+/// Whether a word begins a compound statement that is no `if` and no `case`.
+fn opens_compound(word: Reserved) -> bool
+    ensures { result ≡ sorts.opens_compound word }
+{
+    match word {
+        Reserved::While | Reserved::For | Reserved::Loop => true,
+        Reserved::Declare | Reserved::Begin => true,
         _ => false,
     }
 }
 
-/// Whether a token is this reserved word.
-fn is_reserved(kind: TokenKind, word: Reserved) -> bool
-    ensures { result ≡ sorts.is_in (Class.Reserved word) (sorts.sort_of kind) }
+/// Whether a word begins a statement.
+fn opens_statement(word: Reserved) -> bool
+    ensures { result ≡ sorts.opens_statement word }
 {
-    match kind {
-        TokenKind::Reserved(found) => found == word,
+    match word {
+        Reserved::Null | Reserved::Pragma | Reserved::If | Reserved::Case => true,
+        Reserved::Exit | Reserved::Return | Reserved::Delay => true,
+        Reserved::While | Reserved::For | Reserved::Loop => true,
+        Reserved::Declare | Reserved::Begin => true,
         _ => false,
     }
 }
 
-/// Whether a token is this mark.
-fn is_mark(kind: TokenKind, mark: Mark) -> bool
-    ensures { result ≡ sorts.is_in (Class.Mark mark) (sorts.sort_of kind) }
+/// Whether a word begins a declaration that a block may have.
+fn opens_local(word: Reserved) -> bool
+    ensures { result ≡ sorts.opens_local word }
 {
-    match kind {
-        TokenKind::Mark(found) => found == mark,
+    match word {
+        Reserved::Type | Reserved::Subtype | Reserved::Use | Reserved::Pragma => true,
+        _ => false,
+    }
+}
+
+/// Whether a word begins a declaration.
+fn opens_declaration(word: Reserved) -> bool
+    ensures { result ≡ sorts.opens_declaration word }
+{
+    match word {
+        Reserved::Procedure | Reserved::Function | Reserved::Task | Reserved::Protected => true,
+        Reserved::Type | Reserved::Subtype | Reserved::Use | Reserved::Pragma => true,
+        _ => false,
+    }
+}
+
+/// Whether a word begins what stands in a file by itself.
+fn opens_file_item(word: Reserved) -> bool
+    ensures { result ≡ sorts.opens_file_item word }
+{
+    match word {
+        Reserved::Pragma | Reserved::With | Reserved::Use => true,
+        Reserved::Package | Reserved::Procedure => true,
+        _ => false,
+    }
+}
+
+/// Whether a word begins the body of an operation of a protected type.
+fn opens_body(word: Reserved) -> bool
+    ensures { result ≡ sorts.opens_body word }
+{
+    match word {
+        Reserved::Procedure | Reserved::Function | Reserved::Entry => true,
         _ => false,
     }
 }
 
 impl Class {
-    /// Whether a token is of the class.
-    fn has(self, kind: TokenKind) -> bool
-        ensures { result ≡ sorts.is_in self (sorts.sort_of kind) }
+    /// Whether a reserved word is of the class.
+    fn has_word(self, word: Reserved) -> bool
+        ensures { result ≡ sorts.is_in self (sorts.ReservedSort word) }
     {
         match self {
-            Class::Word => matches!(kind, TokenKind::Word),
-            Class::Number => matches!(kind, TokenKind::Number(_)),
-            Class::Reserved(word) => is_reserved(kind, word),
-            Class::Mark(mark) => is_mark(kind, mark),
-            Class::Relational => match kind {
-                TokenKind::Mark(mark) => is_relational(mark),
-                _ => false,
-            },
-            Class::Adding => match kind {
-                TokenKind::Mark(Mark::Plus) => true,
-                TokenKind::Mark(Mark::Minus) => true,
-                _ => false,
-            },
-            Class::Multiplying => is_multiplying(kind),
-            Class::AttributeName => match kind {
-                TokenKind::Word => true,
-                TokenKind::Reserved(Reserved::Range) => true,
-                _ => false,
-            },
-        }
-    }
-}
-
-impl Nesting {
-    /// At the beginning of an expression, behind so many open parentheses. With `parted`, two dots that stand in no
-    /// further parentheses part two expressions.
-    pub fn new(depth: usize, parted: usize) -> Nesting
-        ensures { result ≡ record { depth = depth; operators = 0; parted = parted; behind_not = false } }
-    {
-        Nesting {
-            depth,
-            operators: 0,
-            parted,
-            behind_not: false,
+            Class::Reserved(wanted) => is_reserved(word, wanted),
+            Class::Multiplying => matches!(word, Reserved::Mod | Reserved::Rem),
+            Class::AttributeName => matches!(word, Reserved::Range),
+            Class::Statement => opens_statement(word),
+            Class::Compound => opens_compound(word),
+            Class::LocalDeclaration => opens_local(word),
+            Class::Declaration => opens_declaration(word),
+            Class::Operation => opens_body(word) || matches!(word, Reserved::Pragma),
+            Class::OperationBody => opens_body(word),
+            Class::PrivateItem => opens_body(word) || matches!(word, Reserved::Pragma),
+            Class::FileItem => opens_file_item(word),
+            Class::Enclosed => true,
+            Class::Skipped => !matches!(word, Reserved::Is),
+            _ => false,
         }
     }
 
-    /// So many open parentheses and operators, behind another token than `not`.
-    fn set(self, depth: usize, operators: usize) -> Nesting
-        ensures { result ≡ limits.set self depth operators }
+    /// Whether a mark is of the class.
+    fn has_mark(self, mark: Mark) -> bool
+        ensures { result ≡ sorts.is_in self (sorts.MarkSort mark) }
     {
-        Nesting {
-            depth,
-            operators,
-            parted: self.parted,
-            behind_not: false,
-        }
-    }
-
-    /// One operator more, unless there are as many as may be.
-    fn counted(self, negates: bool) -> Option<Nesting>
-        ensures { result ≡ limits.counted self negates }
-    {
-        if self.operators < 1024 {
-            Some(Nesting {
-                depth: self.depth,
-                operators: self.operators + 1,
-                parted: self.parted,
-                behind_not: negates,
-            })
-        } else {
-            None
-        }
-    }
-
-    /// A mark more, unless it passes a limit.
-    fn with_mark(self, mark: Mark) -> Option<Nesting>
-        ensures { result ≡ limits.weighed self (limits.mark_weight mark) }
-    {
-        match mark {
-            Mark::Open => {
-                if self.depth < 128 {
-                    Some(self.set(self.depth + 1, self.operators))
-                } else {
-                    None
-                }
+        match self {
+            Class::Mark(wanted) => is_mark(mark, wanted),
+            Class::Relational => is_relational(mark),
+            Class::Adding => matches!(mark, Mark::Plus | Mark::Minus),
+            Class::Multiplying => matches!(mark, Mark::Star | Mark::Slash),
+            Class::Enclosed => !matches!(mark, Mark::Open | Mark::Close),
+            Class::Skipped => {
+                !matches!(
+                    mark,
+                    Mark::Open | Mark::Close | Mark::Comma | Mark::Semicolon
+                )
             }
-            Mark::Close => Some(self.set(self.depth.saturating_sub(1), self.operators)),
-            Mark::Dots => {
-                let operators = if self.depth < self.parted {
-                    0
-                } else {
-                    self.operators
-                };
-                Some(self.set(self.depth, operators))
-            }
-            Mark::Star | Mark::Plus | Mark::Minus | Mark::Slash => self.counted(false),
-            Mark::Power | Mark::Equal | Mark::NotEqual | Mark::Less => self.counted(false),
-            Mark::AtMost | Mark::Greater | Mark::AtLeast => self.counted(false),
-            _ => Some(self.set(self.depth, self.operators)),
+            _ => false,
         }
     }
 
-    /// A reserved word more, unless it passes a limit.
-    fn with_word(self, word: Reserved) -> Option<Nesting>
-        ensures { result ≡ limits.weighed self (limits.word_weight word) }
+    /// Whether identifiers are of the class, whatever they are.
+    fn has_identifiers(self) -> bool
+        ensures { result ≡ sorts.is_in self (sorts.WordSort roles.Ordinary) }
     {
-        match word {
-            Reserved::And | Reserved::Or | Reserved::Xor => self.counted(false),
-            Reserved::Mod | Reserved::Rem | Reserved::Abs => self.counted(false),
-            Reserved::Not => self.counted(true),
-            Reserved::In => {
-                if self.behind_not {
-                    Some(self.set(self.depth, self.operators))
-                } else {
-                    self.counted(false)
-                }
-            }
-            _ => Some(self.set(self.depth, self.operators)),
+        match self {
+            Class::Word | Class::AttributeName | Class::Statement => true,
+            Class::LocalDeclaration | Class::Declaration | Class::PrivateItem => true,
+            Class::Enclosed | Class::Skipped => true,
+            _ => false,
         }
     }
 
-    /// A token more, unless it passes a limit: 128 open parentheses, or 1,024 operators in an expression that stands in
-    /// no other. `and then`, `or else` and `not in` are one operator each, which counts at its first word.
-    #[tactic(auto, unfolding(crate::specs::Limits::step))]
-    pub fn behind(self, kind: TokenKind) -> Option<Nesting>
-        ensures { result ≡ limits.step self (sorts.sort_of kind) }
+    /// Whether an identifier that is written so is of the class.
+    fn has_identifier(self, text: &[u8]) -> bool
+        ensures { result ≡ sorts.is_in self (sorts.sort_of kinds.Word text.now) }
     {
-        match kind {
-            TokenKind::Mark(mark) => self.with_mark(mark),
-            TokenKind::Reserved(word) => self.with_word(word),
-            _ => Some(self.set(self.depth, self.operators)),
+        match self {
+            Class::Mode => matches!(role_of(text), WordRole::Mode),
+            Class::True => matches!(role_of(text), WordRole::True),
+            _ => self.has_identifiers(),
+        }
+    }
+
+    /// Whether a token is of the class.
+    fn has(self, tokens: &Tokens, token: Token) -> bool
+        ensures { result ≡ sorts.is_in self (sort (lexeme tokens.now.source token)) }
+    {
+        match token.kind {
+            TokenKind::Word => self.has_identifier(text(tokens, token)),
+            TokenKind::Reserved(word) => self.has_word(word),
+            TokenKind::Mark(mark) => self.has_mark(mark),
+            TokenKind::Number(_) => {
+                matches!(self, Class::Number | Class::Enclosed | Class::Skipped)
+            }
+            _ => matches!(self, Class::Enclosed | Class::Skipped),
         }
     }
 }
@@ -274,7 +328,7 @@ pub fn accept(
     let Some(token) = list.get(cursor.at) else {
         return Ok(None);
     };
-    if !class.has(token.kind) {
+    if !class.has(tokens, *token) {
         return Ok(None);
     }
     match cursor.nesting.behind(token.kind) {

@@ -3,10 +3,10 @@ use spark_base::{AspectNo, DeclNo, ExprNo, Items, Name, Span, StmtNo};
 /// An aspect or a part of its definition. Each of the lists has the children of its type, in the order of the source.
 #[derive(Debug, Drop)]
 pub struct AspectNode {
-    /// Where the name stands, if the node has one; else all that the node was read from.
+    /// Where the name stands, or else the first token.
     pub span: Span,
     pub kind: AspectKind,
-    /// The name of an aspect, or of a state in an Abstract_State.
+    /// The name of an aspect.
     pub name: Option<Name>,
     pub exprs: Items<ExprNo>,
     pub stmts: Items<StmtNo>,
@@ -34,7 +34,7 @@ pub enum AspectKind {
     Depends,
     /// `Refined_Depends => ..`. Aspects: one `Null` or the dependencies.
     RefinedDepends,
-    /// `Abstract_State => ..`. Aspects: one `Null` or the states.
+    /// `Abstract_State => ..`. Declarations: the states, none for `null`.
     AbstractState,
     /// `Refined_State => ..`. Aspects: the refinements.
     RefinedState,
@@ -44,8 +44,6 @@ pub enum AspectKind {
     PartOf,
     /// `Atomic` or `Atomic => True`.
     Atomic { has_definition: bool },
-    /// `Constant_After_Elaboration` or `Constant_After_Elaboration => True`.
-    ConstantAfterElaboration { has_definition: bool },
     /// An aspect that the analysis does not use, and whose definition is skipped.
     Skipped { has_definition: bool },
     /// An aspect of another name, whose definition is skipped.
@@ -58,8 +56,6 @@ pub enum AspectKind {
     Mode { mode: GlobalMode },
     /// `N =>+ N` in a Depends. Aspects: one `Null` or `Items` for the outputs, and one for the inputs.
     Dependency { has_plus: bool },
-    /// `N` or `(N with ..)` in an Abstract_State. Options are skipped.
-    State { has_options: bool },
     /// `N => N` in a Refined_State. Expressions: the state. Aspects: one `Null` or `Items` for its constituents.
     Refinement,
     /// `N` or `N => N` in an Initializes. Expressions: the item. Aspects: one `Null` or `Items` for its inputs.

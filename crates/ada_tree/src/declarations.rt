@@ -3,10 +3,10 @@ use spark_base::{AspectNo, DeclNo, ExprNo, Items, Name, Span, StmtNo};
 /// A declaration or a part of one. Each of the lists has the children of its type, in the order of the source.
 #[derive(Debug, Drop)]
 pub struct DeclNode {
-    /// Where the name stands, if the node has one; else all that the node was read from.
+    /// Where the name stands, or else the first token.
     pub span: Span,
     pub kind: DeclKind,
-    /// What the node declares, or a pragma's name. Each declared name has a node of its own.
+    /// What the node declares. Each declared name has a node of its own.
     pub name: Option<Name>,
     pub exprs: Items<ExprNo>,
     pub stmts: Items<StmtNo>,
@@ -34,17 +34,9 @@ pub enum DeclKind {
     ContextUse {
         is_type: bool,
     },
-    /// `pragma N (..);` of a context. What stands in parentheses is skipped.
-    ContextPragma {
-        has_arguments: bool,
-    },
     /// `use U, U;` or `use type U, U;` among declarations, without a name. Expressions: the unit names.
     Use {
         is_type: bool,
-    },
-    /// `pragma N (..);` among declarations. What stands in parentheses is skipped.
-    Pragma {
-        has_arguments: bool,
     },
     /// `private D`, without a name. Declarations: those of the part.
     PrivatePart,
@@ -103,7 +95,7 @@ pub enum DeclKind {
         head: Head,
         has_end_name: bool,
     },
-    /// `task type N is D end N;` Declarations: the pragmas. Expressions: the end name.
+    /// `task type N is D end N;` Expressions: the end name.
     Task {
         is_type: bool,
         has_definition: bool,
@@ -117,7 +109,7 @@ pub enum DeclKind {
     },
     /// `protected type N is D private D end N;`
     ///
-    /// Declarations: the operations and pragmas, and the private part as one node. Expressions: the end name.
+    /// Declarations: the operations, and the private part as one node. Expressions: the end name.
     Protected {
         is_type: bool,
         has_private_part: bool,
@@ -147,5 +139,11 @@ pub enum DeclKind {
     /// `N in reverse R` of a `for` loop. Expressions: the discrete range.
     LoopParameter {
         is_reverse: bool,
+    },
+    /// `L` of a loop or a block.
+    StatementName,
+    /// `N` or `(N with ..)` in an Abstract_State. Options are skipped.
+    State {
+        has_options: bool,
     },
 }

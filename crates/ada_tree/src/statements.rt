@@ -3,10 +3,10 @@ use spark_base::{AspectNo, DeclNo, ExprNo, Items, Name, Span, StmtNo};
 /// A statement or a part of one. Each of the lists has the children of its type, in the order of the source.
 #[derive(Debug, Drop)]
 pub struct StmtNode {
-    /// Where the name stands, if the node has one; else all that the node was read from.
+    /// Where the name stands, or else the first token.
     pub span: Span,
     pub kind: StmtKind,
-    /// The label of a loop or a block, the loop that an exit names, or a pragma's name.
+    /// The loop that an exit names.
     pub name: Option<Name>,
     pub exprs: Items<ExprNo>,
     pub stmts: Items<StmtNo>,
@@ -25,10 +25,6 @@ pub enum StmtKind {
     Assignment,
     /// `N;` Expressions: the name of what is called, with its arguments.
     Call,
-    /// `pragma N (..);` What stands in parentheses is skipped.
-    Pragma {
-        has_arguments: bool,
-    },
     /// `if E then S elsif E then S else S end if;`
     ///
     /// Expressions: the conditions. Statements: a sequence for each, and that of `else`.
@@ -39,26 +35,30 @@ pub enum StmtKind {
     Case,
     /// `when C | C => S` of a case. Expressions: the choices. Statements: one sequence.
     Alternative,
-    /// `L : loop S end loop L;` Expressions: the end name. Statements: one sequence.
+    /// `L : loop S end loop L;`
+    ///
+    /// Declarations: the label's name. Expressions: the end name. Statements: one sequence.
     Loop {
         has_label: bool,
         has_end_name: bool,
     },
-    /// `L : while E loop S end loop L;` Expressions: the condition, and the end name. Statements: one sequence.
+    /// `L : while E loop S end loop L;`
+    ///
+    /// Declarations: the label's name. Expressions: the condition, and the end name. Statements: one sequence.
     While {
         has_label: bool,
         has_end_name: bool,
     },
     /// `L : for N in R loop S end loop L;`
     ///
-    /// Declarations: the loop's parameter. Expressions: the end name. Statements: one sequence.
+    /// Declarations: the label's name, and the loop's parameter. Expressions: the end name. Statements: one sequence.
     For {
         has_label: bool,
         has_end_name: bool,
     },
     /// `L : declare D begin S end L;`
     ///
-    /// Declarations: the local ones. Expressions: the end name. Statements: one sequence.
+    /// Declarations: the label's name, and the local ones. Expressions: the end name. Statements: one sequence.
     Block {
         has_label: bool,
         has_declare: bool,

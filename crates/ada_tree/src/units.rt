@@ -18,7 +18,7 @@ pub struct Units {
 /// A unit of a file. Each of the lists has the children of its type, in the order of the source.
 #[derive(Debug, Drop)]
 pub struct Unit {
-    /// Where the name stands.
+    /// Where the name stands, or else the first token.
     pub span: Span,
     pub kind: UnitKind,
     pub name: Option<Name>,
@@ -50,9 +50,5 @@ pub enum UnitKind {
     /// Declarations: the context, and the procedure's. Statements: one sequence. Expressions: the end name.
     Main {
         has_end_name: bool,
-    },
-    /// `pragma N (..);` that no unit of its file follows. What stands in parentheses is skipped.
-    Pragma {
-        has_arguments: bool,
     },
 }

@@ -238,7 +238,7 @@ pub fn spelled(word: Reserved) -> &'static [u8]
 }
 
 /// Whether a word is written so, in whatever case.
-fn is_written(word: &[u8], key: &[u8]) -> bool
+pub fn is_written(word: &[u8], key: &[u8]) -> bool
     ensures { result ≡ words.is_written word.now key.now }
 {
     word.len() == key.len() && agrees(word, key)

@@ -6,7 +6,7 @@ use Rattle.ada_tree.specs.declared.expressions.ExprKind.TheVariants as kinds
 use Rattle.ada_tree.specs.declared.token.Mark.TheVariants as marks
 use Rattle.ada_tree.specs.declared.words.Reserved.TheVariants as words
 use Rattle.ada_exprs.proofs.Found.{absent, below_one, below_two, hands_on, linked_by, named_none, opened_by, over_none, over_one, over_three, over_two, phrase_stays, present, rest_as, stays_first, suffixed, tick_not, trees_one, trees_two, unlinked, unopened, unsuffixed}
-use Rattle.ada_exprs.proofs.Suffixing.{by_tick, dotted, ends, may_open, named_over, refuses, refuses_last, suffix_not, ticked, untied}
+use Rattle.ada_exprs.proofs.Suffixing.{by_tick, dotted, ends, may_open, refuses, refuses_last, suffix_not, ticked, untied}
 use Rattle.ada_grammar.proofs.Answering.{answers, fails, fails_last, misses, misses_here, passes, passes_here}
 use Rattle.ada_grammar.proofs.NodeTrees.{extends_on, extends_same, items_below, items_more, within_on}
 use Rattle.ada_grammar.proofs.Steps.{decided, declined, done, go_as, opened, seen, start, tail, unseen, whole}
@@ -440,6 +440,9 @@ behind_inner-returns-in_err-next-clause-reads t c = passes (lexemes c.args.token
 pub behind_inner-returns-in_err-second-clause-reads : goal.behind_inner-returns-in_err-second-clause-reads
 behind_inner-returns-in_err-second-clause-reads t c = fails (lexemes c.args.tokens.now) c.args.cursor c.in-Some-2.next _ _ _ (seen (unseen (start (parts.BehindExpr _ _) _) (absent (mark marks.Close) (lexeme c.args.tokens.now.source) (lexemes c.args.tokens.now) c.args.cursor c.in_ok-closing.ensures c.in_default.is)) (present (mark marks.Comma) (lexeme c.args.tokens.now.source) (lexemes c.args.tokens.now) c.args.cursor c.in_ok-next.ensures c.in-Some-2.is).takes refl) (λ b. refl) c.in_err-second.ensures.reads c.from_residual-in_err-second.ensures.1
 
+pub behind_inner-read_items-requires : goal.behind_inner-read_items-requires
+behind_inner-read_items-requires t c = (omega (arith, (present (mark marks.Comma) (lexeme c.args.tokens.now.source) (lexemes c.args.tokens.now) c.args.cursor c.in_ok-next.ensures c.in-Some-2.is).place, (present (mark marks.Comma) (lexeme c.args.tokens.now.source) (lexemes c.args.tokens.now) c.args.cursor c.in_ok-next.ensures c.in-Some-2.is).within, c.in_ok-second.ensures.reads.forward), (c.in_ok-second.ensures.reads.ends, below_two _ _ c.in_ok-items.ensures (within_on c.read_expr.ensures.extends c.requires.inner) c.in_ok-second.ensures.reads.within))
+
 pub behind_inner-returns-in-Some-2-clause-extends : goal.behind_inner-returns-in-Some-2-clause-extends
 behind_inner-returns-in-Some-2-clause-extends t c = extends_on (c.read_expr.ensures.extends) c.read_items.ensures.extends
 
@@ -629,11 +632,8 @@ read_suffix-returns-in_err-next-clause-reads t c = suffix_not c.args.may_open (p
 pub read_suffix-returns-in_err-token-clause-reads : goal.read_suffix-returns-in_err-token-clause-reads
 read_suffix-returns-in_err-token-clause-reads t c = suffix_not c.args.may_open (phrase (trees c.args.exprs.now) c.args.left) (lexemes c.args.tokens.now) c.args.cursor _ _ _ (misses_here (lexemes c.args.tokens.now) c.args.cursor c.in-Some.next classes.Word _ (omega (arith, (present (mark marks.Dot) (lexeme c.args.tokens.now.source) (lexemes c.args.tokens.now) c.args.cursor c.in_ok-next.ensures c.in-Some.is).place, (present (mark marks.Dot) (lexeme c.args.tokens.now.source) (lexemes c.args.tokens.now) c.args.cursor c.in_ok-next.ensures c.in-Some.is).within)) (dotted c.args.may_open (phrase (trees c.args.exprs.now) c.args.left) (present (mark marks.Dot) (lexeme c.args.tokens.now.source) (lexemes c.args.tokens.now) c.args.cursor c.in_ok-next.ensures c.in-Some.is).takes) refl (λ t. refl) c.in_err-token.ensures) c.from_residual-in_err-token.ensures.1
 
-pub read_suffix-add_named-requires : goal.read_suffix-add_named-requires
-read_suffix-add_named-requires t c = record { below = below_one _ c.in_ok-children.ensures c.requires.left }
-
 pub read_suffix-returns-in-Some-clause-reads : goal.read_suffix-returns-in-Some-clause-reads
-read_suffix-returns-in-Some-clause-reads t c = record { within = c.in_ok-node.ensures.within; forward = omega (arith, (present (mark marks.Dot) (lexeme c.args.tokens.now.source) (lexemes c.args.tokens.now) c.args.cursor c.in_ok-next.ensures c.in-Some.is).place, c.in_ok-token.ensures.place); ends = omega (arith, c.in_ok-token.ensures.place, c.in_ok-token.ensures.within); awaits = go_as (λ z. Rest (parts.Suffixes true z)) (named_over _ c.args.left.node (phrases.selected_form c.args.left.form) kinds.Selected (lexeme c.args.tokens.now.source c.in_ok-token.token) (phrases.join c.args.left.span c.in_ok-token.token.span) c.in_ok-node.ensures.builds c.in_ok-children.ensures c.selected_form-form.ensures c.join-span.ensures) (seen (dotted c.args.may_open (phrase (trees c.args.exprs.now) c.args.left) (present (mark marks.Dot) (lexeme c.args.tokens.now.source) (lexemes c.args.tokens.now) c.args.cursor c.in_ok-next.ensures c.in-Some.is).takes) c.in_ok-token.ensures.takes refl) }
+read_suffix-returns-in-Some-clause-reads t c = record { within = c.in_ok-node.ensures.within; forward = omega (arith, (present (mark marks.Dot) (lexeme c.args.tokens.now.source) (lexemes c.args.tokens.now) c.args.cursor c.in_ok-next.ensures c.in-Some.is).place, c.in_ok-token.ensures.place); ends = omega (arith, c.in_ok-token.ensures.place, c.in_ok-token.ensures.within); awaits = go_as (λ z. Rest (parts.Suffixes true z)) c.in_ok-node.ensures.builds (seen (dotted c.args.may_open (phrase (trees c.args.exprs.now) c.args.left) (present (mark marks.Dot) (lexeme c.args.tokens.now.source) (lexemes c.args.tokens.now) c.args.cursor c.in_ok-next.ensures c.in-Some.is).takes) c.in_ok-token.ensures.takes refl) }
 
 pub read_suffix-returns-in_err-next-2-clause-reads : goal.read_suffix-returns-in_err-next-2-clause-reads
 read_suffix-returns-in_err-next-2-clause-reads t c = suffix_not c.args.may_open (phrase (trees c.args.exprs.now) c.args.left) (lexemes c.args.tokens.now) c.args.cursor _ _ _ (passes_here (lexemes c.args.tokens.now) c.args.cursor c.args.cursor (mark marks.Tick) _ (unseen (start (parts.Suffixes c.args.may_open (phrase (trees c.args.exprs.now) c.args.left)) _) (absent (mark marks.Dot) (lexeme c.args.tokens.now.source) (lexemes c.args.tokens.now) c.args.cursor c.in_ok-next.ensures c.in_default.is)) (λ t. refl) c.in_err-next-2.ensures) c.from_residual-in_err-next-2.ensures.1

@@ -1,5 +1,5 @@
 use Rattle.std.proofs.Common.{ℕ, List, ◌∙◌, ap}
-use Rattle.ada_grammar.specs.Phrases.{Tree, named}
+use Rattle.ada_grammar.specs.Phrases.{Tree, named, none}
 use Rattle.ada_grammar.specs.Built.{trees, trees_at}
 use Rattle.ada_grammar.proofs.NodeTrees.{trees_length, added_tree, added_within, below_equal}
 use Rattle.ada_grammar.proofs.nodes.add_named.Goals as goal
@@ -12,5 +12,5 @@ returns-clause-within c = added_within c.in_ok-node.ensures.adds
 
 pub returns-clause-builds : goal.returns-clause-builds
 returns-clause-builds c =
-    ap (λ (z : Tree). record { tree = z; span = c.args.span; form = c.args.form }) (added_tree c.in_ok-node.ensures.adds)
+    ap (λ (z : Tree). record { tree = z; span = c.args.span; form = c.args.form; children = none }) (added_tree c.in_ok-node.ensures.adds)
     ∙ ap (λ (z : List ℕ). named c.args.form c.args.kind (record { token = c.args.token; text = z }) c.args.span (trees_at (trees c.args.exprs.now) c.args.children)) (c.in_ok-name.ensures.written ∙ c.text.ensures)

@@ -1,5 +1,5 @@
 use Rattle.std.proofs.Common.{ap}
-use Rattle.ada_grammar.specs.Phrases.{Tree}
+use Rattle.ada_grammar.specs.Phrases.{Tree, none}
 use Rattle.ada_grammar.proofs.NodeTrees.{trees_length, added_tree, added_within, below_equal}
 use Rattle.ada_grammar.proofs.nodes.add_node.Goals as goal
 
@@ -10,4 +10,4 @@ pub returns-clause-within : goal.returns-clause-within
 returns-clause-within c = added_within c.in_ok-node.ensures.adds
 
 pub returns-clause-builds : goal.returns-clause-builds
-returns-clause-builds c = ap (λ (z : Tree). record { tree = z; span = c.args.span; form = c.args.form }) (added_tree c.in_ok-node.ensures.adds)
+returns-clause-builds c = ap (λ (z : Tree). record { tree = z; span = c.args.span; form = c.args.form; children = none }) (added_tree c.in_ok-node.ensures.adds)

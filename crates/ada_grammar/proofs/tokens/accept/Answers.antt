@@ -9,7 +9,7 @@ pub returns-in-Some-behind : goal.returns-in-Some-behind
 returns-in-Some-behind c = record {
   takes = record {
     begins = record { sort = sym c.if-not-has.ensures; joins = ahead c.args.tokens.now _ c.args.cursor.at c.in-Some.token.now c.as_slice-list.ensures c.in-Some.ensures.lookup.3.0 c.in-Some.ensures.lookup.1 };
-    stepped = sym c.behind.ensures ∙ c.in-Some-behind.is;
+    stepped = sym (c.behind.ensures _) ∙ c.in-Some-behind.is;
   };
   place = refl;
   within = within_lexemes c.args.tokens.now _ c.args.cursor.at c.as_slice-list.ensures c.in-Some.ensures.lookup.3.0;
@@ -23,6 +23,6 @@ returns-in-None c = record {
     token = _;
     further = _;
     begins = record { sort = sym c.if-not-has.ensures; joins = ahead c.args.tokens.now _ c.args.cursor.at c.in-Some.token.now c.as_slice-list.ensures c.in-Some.ensures.lookup.3.0 c.in-Some.ensures.lookup.1 };
-    stepped = sym c.behind.ensures ∙ c.in-None.is;
+    stepped = sym (c.behind.ensures _) ∙ c.in-None.is;
   };
 }

@@ -1,0 +1,37 @@
+use Rattle.std.proofs.Common.{refl, arith}
+use Rattle.ada_tree.specs.declared.token.Mark.TheVariants as marks
+use Rattle.ada_grammar.specs.Lexemes.{lexeme, lexemes}
+use Rattle.ada_grammar.specs.Grammar as parts
+use Rattle.ada_grammar.specs.Grammar.{mark, word, Gives, Call, Rest}
+use Rattle.ada_grammar.proofs.Steps.{whole, opened, seen, unseen, done}
+use Rattle.ada_grammar.proofs.Answering.{passes_here, misses_here, refuses}
+use Rattle.ada_grammar.proofs.Joining.{absent, present, fault_found, found}
+use Rattle.ada_grammar.proofs.Standing.{grows_same, grows_on}
+use Rattle.ada_aspects.proofs.readers.more_states.Goals as goal
+
+pub loop-behind_comma-init : goal.loop-behind_comma-init
+loop-behind_comma-init c = record { forward = omega arith; ends = c.requires.at; grows = (grows_same _); awaits = λ ds hd. (ds, hd, (whole (parts.MoreStates ds) _)) }
+
+pub returns-in_err-behind_comma-clause-reads : goal.returns-in_err-behind_comma-clause-reads
+returns-in_err-behind_comma-clause-reads c = λ ds hd. let y = c.loop-behind_comma.invariant.awaits ds hd in fault_found (parts.MoreStates ds) (lexemes c.args.tokens.now) c.args.cursor _ _ _ _ (passes_here (lexemes c.args.tokens.now) c.args.cursor c.loop-behind_comma.next (mark marks.Comma) _ (opened y.2) (λ t. refl) c.in_err-behind_comma.ensures) c.from_residual.ensures.1
+
+pub returns-in_err-next-clause-reads : goal.returns-in_err-next-clause-reads
+returns-in_err-next-clause-reads c = λ ds hd. let y = c.loop-behind_comma.invariant.awaits ds hd in fault_found (parts.MoreStates ds) (lexemes c.args.tokens.now) c.args.cursor _ _ _ _ (refuses (lexemes c.args.tokens.now) c.args.cursor c.in-Some.behind_comma _ (seen (opened y.2) (present (mark marks.Comma) (lexeme c.args.tokens.now.source) (lexemes c.args.tokens.now) c.loop-behind_comma.next c.in_ok-behind_comma.ensures c.in-Some.is).takes refl) (λ b. refl) (c.in_err-next.ensures.reads _ y.1)) c.from_residual-in_err-next.ensures.1
+
+pub returns-in_err-next-clause-grows : goal.returns-in_err-next-clause-grows
+returns-in_err-next-clause-grows c = (grows_on c.loop-behind_comma.invariant.grows c.in_err-next.ensures.grows)
+
+pub loop-behind_comma-preserved : goal.loop-behind_comma-preserved
+loop-behind_comma-preserved c = record { forward = omega (arith, c.loop-behind_comma.invariant.forward, (present (mark marks.Comma) (lexeme c.args.tokens.now.source) (lexemes c.args.tokens.now) c.loop-behind_comma.next c.in_ok-behind_comma.ensures c.in-Some.is).place, c.in_ok-next.ensures.goes.forward); ends = c.in_ok-next.ensures.goes.ends; grows = (grows_on c.loop-behind_comma.invariant.grows c.in_ok-next.ensures.grows); awaits = λ ds hd. let y = c.loop-behind_comma.invariant.awaits ds hd in let f2 = c.in_ok-next.ensures.reads _ y.1 in (f2.children, f2.holds, (done (seen (opened y.2) (present (mark marks.Comma) (lexeme c.args.tokens.now.source) (lexemes c.args.tokens.now) c.loop-behind_comma.next c.in_ok-behind_comma.ensures c.in-Some.is).takes refl) f2.reads (λ b. refl))) }
+
+pub loop-behind_comma-smaller : goal.loop-behind_comma-smaller
+loop-behind_comma-smaller c = omega (arith, (present (mark marks.Comma) (lexeme c.args.tokens.now.source) (lexemes c.args.tokens.now) c.loop-behind_comma.next c.in_ok-behind_comma.ensures c.in-Some.is).place, c.in_ok-next.ensures.goes.forward, (present (mark marks.Comma) (lexeme c.args.tokens.now.source) (lexemes c.args.tokens.now) c.loop-behind_comma.next c.in_ok-behind_comma.ensures c.in-Some.is).within)
+
+pub returns-in_err-behind_end-clause-reads : goal.returns-in_err-behind_end-clause-reads
+returns-in_err-behind_end-clause-reads c = λ ds hd. let y = c.loop-behind_comma.invariant.awaits ds hd in fault_found (parts.MoreStates ds) (lexemes c.args.tokens.now) c.args.cursor _ _ _ _ (misses_here (lexemes c.args.tokens.now) c.args.cursor c.loop-behind_comma.next (mark marks.Close) _ c.loop-behind_comma.invariant.ends (unseen (opened y.2) (absent (mark marks.Comma) (lexeme c.args.tokens.now.source) (lexemes c.args.tokens.now) c.loop-behind_comma.next c.in_ok-behind_comma.ensures c.in_default.is)) refl (λ t. refl) c.in_err-behind_end.ensures) c.from_residual-in_err-behind_end.ensures.1
+
+pub returns-clause-reads : goal.returns-clause-reads
+returns-clause-reads c = λ ds hd. let y = c.loop-behind_comma.invariant.awaits ds hd in found (lexemes c.args.tokens.now) c.args.cursor c.in_ok-behind_end.behind_end y.1 (omega (arith, c.loop-behind_comma.invariant.forward, c.in_ok-behind_end.ensures.place)) (omega (arith, c.in_ok-behind_end.ensures.place, c.in_ok-behind_end.ensures.within)) (seen (unseen (opened y.2) (absent (mark marks.Comma) (lexeme c.args.tokens.now.source) (lexemes c.args.tokens.now) c.loop-behind_comma.next c.in_ok-behind_comma.ensures c.in_default.is)) c.in_ok-behind_end.ensures.takes refl)
+
+pub returns-clause-goes : goal.returns-clause-goes
+returns-clause-goes c = record { forward = omega (arith, c.loop-behind_comma.invariant.forward, c.in_ok-behind_end.ensures.place); ends = (omega (arith, c.in_ok-behind_end.ensures.place, c.in_ok-behind_end.ensures.within)) }

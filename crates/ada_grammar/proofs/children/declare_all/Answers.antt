@@ -1,0 +1,32 @@
+use Rattle.std.proofs.Common.{◌≡◌, ℕ, ◌+◌, ◌<◌, List, length, map, drop, ap, sym, ◌∙◌, subst, get_or}
+use Rattle.std.proofs.lemmas.List.{at_drop_more}
+use Rattle.ada_tree.specs.declared.declarations.DeclKind.{DeclKind}
+use Rattle.ada_tree.specs.declared.token.Token.{Token}
+use Rattle.ada_grammar.specs.declared.children.Children as held
+use Rattle.ada_grammar.specs.Lexemes.{Lexeme, lexeme}
+use Rattle.ada_grammar.specs.Phrases.{Children, declared, declared_all}
+use Rattle.ada_grammar.specs.Standing.{Holds}
+use Rattle.ada_grammar.proofs.Standing.{grows_on, holds_on}
+use Rattle.ada_grammar.proofs.children.declare_all.Goals as goal
+
+-- one name is declared, and fewer are left
+next_name : (kind : DeclKind) (of : Token → Lexeme) (items names : List Token) (i : ℕ) (d : Token) (os before whole : Children) → items ≡ names → i < length items
+    → declared_all kind (map of (drop i names)) os before ≡ whole → declared_all kind (map of (drop (i + 1) names)) os (declared kind (of (get_or items i d)) os before) ≡ whole
+next_name kind of items names i d os before whole e within h =
+    ap (λ (z : List Token). declared_all kind (map of (drop (i + 1) names)) os (declared kind (of (get_or z i d)) os before)) e
+    ∙ (sym (at_drop_more (λ (z : List Token). declared_all kind (map of z) os before) names i d (subst (λ (z : List Token). i < length z) e within)) ∙ h)
+
+pub returns-in_err-declare-clause-grows : goal.returns-in_err-declare-clause-grows
+returns-in_err-declare-clause-grows c = grows_on c.loop-name.invariant.grows c.declare.ensures.grows
+
+pub loop-name-preserved : goal.loop-name-preserved
+loop-name-preserved c = record {
+  grows = grows_on c.loop-name.invariant.grows c.declare.ensures.grows;
+  rest = λ os ds own into.
+      let before = c.loop-name.invariant.rest os ds own into in
+      let under = subst (λ (z : held.Children). Holds c.loop-name.units z os) (sym c.in_ok-copy.ensures) (holds_on c.loop-name.invariant.grows own) in (
+        _,
+        c.in_ok-declare.ensures.builds os before.0 under before.1,
+        next_name c.args.kind (lexeme c.args.tokens.now.source) c.as_slice-name-items.result.now c.args.names.now c.loop-name.name-index _ os before.0 _ c.as_slice-name-items.ensures c.loop-name-test.true before.2,
+      );
+}
