@@ -18,14 +18,8 @@ use Rattle.ada_grammar.specs.declared.tokens.Cursor.{Cursor}
 use Rattle.ada_grammar.specs.Lexemes.{Lexeme}
 use Rattle.ada_grammar.specs.Phrases.{Phrase, Tree, none, node, named, join}
 use Rattle.ada_grammar.specs.Built.{AreBelow, Extends, phrase, trees, tree_at, trees_at}
-use Rattle.ada_grammar.specs.Taking.{Accepts, Looks, NotFirst, IsTaken, Passes, Takes}
+use Rattle.ada_grammar.specs.Taking.{Accepts, NotFirst, Passes, Takes}
 use Rattle.ada_grammar.proofs.NodeTrees.{stays}
-
-pub absent : (c : Class) (of : Token → Lexeme) (ts : List Lexeme) (cursor : Cursor) {o : Option (Token × Cursor)} → Looks c of ts cursor o → o ≡ None → NotFirst c (drop cursor.at ts)
-absent c of ts cursor {o} h e = subst (λ (z : Option (Token × Cursor)). Looks c of ts cursor z) e h
-
-pub present : (c : Class) (of : Token → Lexeme) (ts : List Lexeme) (cursor : Cursor) {o : Option (Token × Cursor)} {t : Token} {next : Cursor} → Looks c of ts cursor o → o ≡ Some (t, next) → IsTaken c ts cursor (of t) next
-present c of ts cursor {o} h e = subst (λ (z : Option (Token × Cursor)). Looks c of ts cursor z) e h
 
 -- a node over one other
 pub over_one : (form : Form) (k : ExprKind) (cs : List Tree) (t : Span) {l : ExprKind} {s : Span} {x : Phrase} → x ≡ node form l s cs → l ≡ k → s ≡ t → x ≡ node form k t cs
@@ -94,10 +88,6 @@ trees_two built {xs} a b e = ap (λ (z : List ExprNo). trees_at built z) e
 
 pub stays_first : {old new : List ExprNode} {a : ExprNo} {ts : List Tree} → Extends old new → a.0 < length (trees old) → tree_at (trees new) a ∷ ts ≡ tree_at (trees old) a ∷ ts
 stays_first {old} {new} {a} {ts} g h = ap (λ (z : Tree). z ∷ ts) (stays a g h)
-
--- a rest over a list of trees by another name
-pub rest_as : {part : Part} {p q : Point} (inner : List Tree → Part) {x y : List Tree} → y ≡ x → Awaits part p q (Rest (inner x)) → Awaits part p q (Rest (inner y))
-rest_as {part} {p} {q} inner {x} {y} e s = subst (λ (z : List Tree). Awaits part p q (Rest (inner z))) (sym e) s
 
 pub below_one : {m : ℕ} {xs : List ExprNo} (a : ExprNo) → xs ≡ a ∷ [] → a.0 < m → AreBelow m xs
 below_one {m} {xs} a e h = subst (λ (z : List ExprNo). AreBelow m z) (sym e) (h, tt)

@@ -1,7 +1,6 @@
 -- What an expression that was read is worth to the children that hold it.
 use Rattle.std.proofs.Common.{◌≡◌, refl, sym, subst, List, [], ◌∷◌, Result, Ok, Err}
 use Rattle.std.specs.Result.{IsErrAnd}
-use Rattle.ada_tree.specs.declared.expressions.ExprNode.{ExprNode}
 use Rattle.ada_tree.specs.declared.units.Units.{Units}
 use Rattle.ada_grammar.specs.declared.children.Children as held
 use Rattle.ada_grammar.specs.declared.nodes.Built.{Built}
@@ -9,14 +8,10 @@ use Rattle.ada_grammar.specs.declared.tokens.Cursor.{Cursor}
 use Rattle.ada_grammar.specs.declared.tokens.Fault.{Fault}
 use Rattle.ada_grammar.specs.Lexemes.{Lexeme}
 use Rattle.ada_grammar.specs.Phrases.{Tree, Children, with_expr}
-use Rattle.ada_grammar.specs.Built.{Extends, phrase, trees, tree_at}
+use Rattle.ada_grammar.specs.Built.{phrase, trees, tree_at}
 use Rattle.ada_grammar.specs.Grammar.{Part}
 use Rattle.ada_grammar.specs.Reading.{Done, Fails}
-use Rattle.ada_grammar.specs.Standing.{ExprRef, Grows, Holds, Stands, expression, nowhere, Forth, FoundExpr, FindsExpr}
-use Rattle.ada_grammar.proofs.Standing.{lengthens_same}
-
-pub exprs_grow : {u : Units} {list : List ExprNode} → Extends u.exprs list → Grows u (record u { exprs = list })
-exprs_grow {u} g = record { exprs = g; stmts = lengthens_same u.stmts; decls = lengthens_same u.decls; aspects = lengthens_same u.aspects; units = lengthens_same u.units }
+use Rattle.ada_grammar.specs.Standing.{ExprRef, Holds, Stands, expression, nowhere, Forth, FoundExpr, FindsExpr}
 
 -- the node that was built is held behind the others
 pub holds_read : (part : Part) (ts : List Lexeme) (cursor next : Cursor) (x : Built) {u : Units} {old new : held.Children} → Done part ts cursor (trees u.exprs) x next

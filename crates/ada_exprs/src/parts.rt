@@ -26,7 +26,7 @@ fn hold(answer: Result<(Built, Cursor), Fault>, into: &mut Children) -> Result<C
 }
 
 /// An expression.
-#[tactic(auto, using(crate::proofs::Holding::exprs_grow))]
+#[tactic(auto, using(ada_grammar::proofs::Standing::exprs_grow))]
 pub fn expression(
     alloc: Global,
     units: &mut Units,
@@ -44,7 +44,7 @@ pub fn expression(
 }
 
 /// A simple expression.
-#[tactic(auto, using(crate::proofs::Holding::exprs_grow))]
+#[tactic(auto, using(ada_grammar::proofs::Standing::exprs_grow))]
 pub fn simple_expression(
     alloc: Global,
     units: &mut Units,
@@ -62,7 +62,7 @@ pub fn simple_expression(
 }
 
 /// A discrete range.
-#[tactic(auto, using(crate::proofs::Holding::exprs_grow))]
+#[tactic(auto, using(ada_grammar::proofs::Standing::exprs_grow))]
 pub fn discrete_range(
     alloc: Global,
     units: &mut Units,
@@ -80,7 +80,7 @@ pub fn discrete_range(
 }
 
 /// A choice.
-#[tactic(auto, using(crate::proofs::Holding::exprs_grow))]
+#[tactic(auto, using(ada_grammar::proofs::Standing::exprs_grow))]
 pub fn choice(
     alloc: Global,
     units: &mut Units,
@@ -98,7 +98,7 @@ pub fn choice(
 }
 
 /// The rest of a name, behind its first word.
-#[tactic(auto, using(crate::proofs::Holding::exprs_grow))]
+#[tactic(auto, using(ada_grammar::proofs::Standing::exprs_grow))]
 pub fn name_from(
     alloc: Global,
     units: &mut Units,
@@ -117,7 +117,7 @@ pub fn name_from(
 }
 
 /// Words parted by points.
-#[tactic(auto, using(crate::proofs::Holding::exprs_grow))]
+#[tactic(auto, using(ada_grammar::proofs::Standing::exprs_grow))]
 pub fn unit_name(
     alloc: Global,
     units: &mut Units,
@@ -135,7 +135,7 @@ pub fn unit_name(
 }
 
 /// A subtype, with or without a range.
-#[tactic(auto, using(crate::proofs::Holding::exprs_grow))]
+#[tactic(auto, using(ada_grammar::proofs::Standing::exprs_grow))]
 pub fn indication(
     alloc: Global,
     units: &mut Units,

@@ -22,7 +22,7 @@ use Rattle.ada_tree.specs.declared.units.Units.{Units}
 use Rattle.ada_grammar.specs.declared.children.Children as held
 use Rattle.ada_grammar.specs.Phrases.{OfStmt, OfDecl, OfAspect, OfUnit, Head, Tree, Root, with_all, Children, none, node_tree, with_expr, with_stmt, with_decl, with_aspect}
 use Rattle.ada_grammar.specs.Built.{trees, tree_at, written, Extends}
-use Rattle.ada_grammar.specs.Standing.{Ref, ExprRef, StmtRef, DeclRef, AspectRef, UnitRef, refs, stmt_node, decl_node, aspect_node, unit_node, node_at, IsBelow, AreUnder, Stands, nowhere, expression, over, Holds, Lengthens, Appends, Grows}
+use Rattle.ada_grammar.specs.Standing.{Ref, ExprRef, StmtRef, DeclRef, AspectRef, UnitRef, refs, stmt_node, decl_node, aspect_node, unit_node, node_at, IsBelow, AreUnder, Stands, nowhere, expression, over, Holds, Lengthens, Appends, Widens, Grows}
 use Rattle.ada_grammar.proofs.NodeTrees.{stays, within_on, extends_same, extends_on}
 
 -- Lists that grow
@@ -59,17 +59,23 @@ get_on {A} {xs} {ys} n x g e = ap (λ (z : List A). slice_get z n) g.joins ∙ g
 
 -- Trees that grow
 
-pub grows_same : (u : Units) → Grows u u
-grows_same u = record { exprs = extends_same u.exprs; stmts = lengthens_same u.stmts; decls = lengthens_same u.decls; aspects = lengthens_same u.aspects; units = lengthens_same u.units }
+pub widens_same : (u : Units) → Widens u u
+widens_same u = record { exprs = extends_same u.exprs; stmts = lengthens_same u.stmts; decls = lengthens_same u.decls; aspects = lengthens_same u.aspects; units = lengthens_same u.units }
 
-pub grows_on : {u v w : Units} → Grows u v → Grows v w → Grows u w
-grows_on {u} {v} {w} g h = record {
+pub widens_on : {u v w : Units} → Widens u v → Widens v w → Widens u w
+widens_on {u} {v} {w} g h = record {
   exprs = extends_on g.exprs h.exprs;
   stmts = lengthens_on g.stmts h.stmts;
   decls = lengthens_on g.decls h.decls;
   aspects = lengthens_on g.aspects h.aspects;
   units = lengthens_on g.units h.units;
 }
+
+pub grows_same : (u : Units) → Grows u u
+grows_same u = record { widens = widens_same u; units = refl }
+
+pub grows_on : {u v w : Units} → Grows u v → Grows v w → Grows u w
+grows_on {u} {v} {w} g h = record { widens = widens_on g.widens h.widens; units = h.units ∙ g.units }
 
 -- a node that is there, by a function of what a list has at its number
 node_on : {A : Type 0} {B : Type 0} {xs ys : List A} (f : Option A → Option B) (n : ℕ) (b : B) → f None ≡ None → Lengthens A xs ys → (o : Option A) → slice_get xs n ≡ o → f (slice_get xs n) ≡ Some b → f (slice_get ys n) ≡ Some b
@@ -80,7 +86,7 @@ node_within : {A : Type 0} {B : Type 0} (xs : List A) (f : Option A → Option B
 node_within {A} {B} xs f n b empty None e h = absurd (none-some b (sym empty ∙ (sym (ap f e) ∙ h)))
 node_within {A} {B} xs f n b empty (Some a) e h = slice_get_within xs n a e
 
-node_at_on : {u v : Units} (r : Ref) (h : Head) (cs : List Ref) → Grows u v → node_at u r ≡ Some (h, cs) → node_at v r ≡ Some (h, cs)
+node_at_on : {u v : Units} (r : Ref) (h : Head) (cs : List Ref) → Widens u v → node_at u r ≡ Some (h, cs) → node_at v r ≡ Some (h, cs)
 node_at_on {u} {v} (ExprRef n) h cs g e = e
 node_at_on {u} {v} (StmtRef n) h cs g e = node_on stmt_node n.0 (h, cs) refl g.stmts (slice_get u.stmts n.0) refl e
 node_at_on {u} {v} (DeclRef n) h cs g e = node_on decl_node n.0 (h, cs) refl g.decls (slice_get u.decls n.0) refl e
@@ -88,13 +94,13 @@ node_at_on {u} {v} (AspectRef n) h cs g e = node_on aspect_node n.0 (h, cs) refl
 node_at_on {u} {v} (UnitRef n) h cs g e = node_on unit_node n (h, cs) refl g.units (slice_get u.units n) refl e
 
 -- what stands there goes on to
-pub stands_on : {u v : Units} {rs : List Ref} {ts : List Tree} → Grows u v → Stands u rs ts → Stands v rs ts
-stands_on g nowhere = nowhere
-stands_on g (expression {n = n} within is rest) = expression (within_on g.exprs within) (is ∙ sym (stays n g.exprs within)) (stands_on g rest)
-stands_on g (over {r = r} {h = h} {cs = cs} node below under is rest) = over (node_at_on r h cs g node) below (stands_on g under) is (stands_on g rest)
+pub stands_wide : {u v : Units} {rs : List Ref} {ts : List Tree} → Widens u v → Stands u rs ts → Stands v rs ts
+stands_wide g nowhere = nowhere
+stands_wide g (expression {n = n} within is rest) = expression (within_on g.exprs within) (is ∙ sym (stays n g.exprs within)) (stands_wide g rest)
+stands_wide g (over {r = r} {h = h} {cs = cs} node below under is rest) = over (node_at_on r h cs g node) below (stands_wide g under) is (stands_wide g rest)
 
 pub holds_on : {u v : Units} {r : held.Children} {d : Children} → Grows u v → Holds u r d → Holds v r d
-holds_on {u} {v} {r} {d} g h = record { exprs = stands_on g h.exprs; stmts = stands_on g h.stmts; decls = stands_on g h.decls; aspects = stands_on g h.aspects }
+holds_on {u} {v} {r} {d} g h = record { exprs = stands_wide g.widens h.exprs; stmts = stands_wide g.widens h.stmts; decls = stands_wide g.widens h.decls; aspects = stands_wide g.widens h.aspects }
 
 -- one list of numbers behind another
 pub stands_append : {u : Units} {xs ys : List Ref} {ts us : List Tree} → Stands u xs ts → Stands u ys us → Stands u (xs ++ ys) (ts ++ us)
@@ -177,15 +183,15 @@ are_under u r (s ∷ rs) a w = (is_below u r s a w.0, are_under u r rs a w.1)
 stands_refs : {u : Units} {r : held.Children} {d : Children} → Holds u r d → Stands u (refs r.exprs r.stmts r.decls r.aspects) (d.exprs ++ (d.stmts ++ (d.decls ++ d.aspects)))
 stands_refs {u} {r} {d} h = stands_append h.exprs (stands_append h.stmts (stands_append h.decls h.aspects))
 
-stands_added : {u v : Units} (r : Ref) (h : Head) (c : held.Children) {d : Children} → IsAbove u r → Grows u v → node_at v r ≡ Some (h, refs c.exprs c.stmts c.decls c.aspects) → Holds u c d
+stands_added : {u v : Units} (r : Ref) (h : Head) (c : held.Children) {d : Children} → IsAbove u r → Widens u v → node_at v r ≡ Some (h, refs c.exprs c.stmts c.decls c.aspects) → Holds u c d
     → Stands v (r ∷ []) (with_all (Root h) (d.exprs ++ (d.stmts ++ (d.decls ++ d.aspects))) ∷ [])
 stands_added {u} {v} r h c {d} above g node holds =
-    over node (are_under u r (refs c.exprs c.stmts c.decls c.aspects) above (stands_within (stands_refs holds))) (stands_on g (stands_refs holds)) refl nowhere
+    over node (are_under u r (refs c.exprs c.stmts c.decls c.aspects) above (stands_within (stands_refs holds))) (stands_wide g (stands_refs holds)) refl nowhere
 
 -- A node more, and its number
 
 pub stmts_grow : {u : Units} {list : List StmtNode} {x : StmtNode} {n : ℕ} → Appends StmtNode u.stmts list x n → Grows u (record u { stmts = list })
-stmts_grow {u} a = record { exprs = extends_same u.exprs; stmts = lengthens_appended a; decls = lengthens_same u.decls; aspects = lengthens_same u.aspects; units = lengthens_same u.units }
+stmts_grow {u} a = record { widens = record { exprs = extends_same u.exprs; stmts = lengthens_appended a; decls = lengthens_same u.decls; aspects = lengthens_same u.aspects; units = lengthens_same u.units }; units = refl }
 
 pub stmt_builds : {u : Units} {own into : held.Children} (kind : StmtKind) (span : Span) (name : Option Name) {list : List StmtNode} {numbers : List StmtNo} {n : ℕ}
     → Appends StmtNode u.stmts list (record { span = span; kind = kind; name = name; exprs = own.exprs; stmts = own.stmts; decls = own.decls; aspects = own.aspects }) n
@@ -196,13 +202,13 @@ stmt_builds {u} {own} {into} kind span name {list} {numbers} {n} a e os ds under
     record {
       exprs = h.exprs;
       stmts = stands_as (ap (λ (z : List StmtNo). map StmtRef z) e ∙ map-append StmtRef into.stmts (record { 0 = n } ∷ []))
-          (stands_push h.stmts (stands_added (StmtRef (record { 0 = n })) (record { kind = OfStmt kind; span = span; name = written name }) own a.place (stmts_grow a) (ap stmt_node (appended_get a)) under));
+          (stands_push h.stmts (stands_added (StmtRef (record { 0 = n })) (record { kind = OfStmt kind; span = span; name = written name }) own a.place (stmts_grow a).widens (ap stmt_node (appended_get a)) under));
       decls = h.decls;
       aspects = h.aspects;
     }
 
 pub decls_grow : {u : Units} {list : List DeclNode} {x : DeclNode} {n : ℕ} → Appends DeclNode u.decls list x n → Grows u (record u { decls = list })
-decls_grow {u} a = record { exprs = extends_same u.exprs; stmts = lengthens_same u.stmts; decls = lengthens_appended a; aspects = lengthens_same u.aspects; units = lengthens_same u.units }
+decls_grow {u} a = record { widens = record { exprs = extends_same u.exprs; stmts = lengthens_same u.stmts; decls = lengthens_appended a; aspects = lengthens_same u.aspects; units = lengthens_same u.units }; units = refl }
 
 pub decl_builds : {u : Units} {own into : held.Children} (kind : DeclKind) (span : Span) (name : Option Name) {list : List DeclNode} {numbers : List DeclNo} {n : ℕ}
     → Appends DeclNode u.decls list (record { span = span; kind = kind; name = name; exprs = own.exprs; stmts = own.stmts; decls = own.decls; aspects = own.aspects }) n
@@ -214,12 +220,12 @@ decl_builds {u} {own} {into} kind span name {list} {numbers} {n} a e os ds under
       exprs = h.exprs;
       stmts = h.stmts;
       decls = stands_as (ap (λ (z : List DeclNo). map DeclRef z) e ∙ map-append DeclRef into.decls (record { 0 = n } ∷ []))
-          (stands_push h.decls (stands_added (DeclRef (record { 0 = n })) (record { kind = OfDecl kind; span = span; name = written name }) own a.place (decls_grow a) (ap decl_node (appended_get a)) under));
+          (stands_push h.decls (stands_added (DeclRef (record { 0 = n })) (record { kind = OfDecl kind; span = span; name = written name }) own a.place (decls_grow a).widens (ap decl_node (appended_get a)) under));
       aspects = h.aspects;
     }
 
 pub aspects_grow : {u : Units} {list : List AspectNode} {x : AspectNode} {n : ℕ} → Appends AspectNode u.aspects list x n → Grows u (record u { aspects = list })
-aspects_grow {u} a = record { exprs = extends_same u.exprs; stmts = lengthens_same u.stmts; decls = lengthens_same u.decls; aspects = lengthens_appended a; units = lengthens_same u.units }
+aspects_grow {u} a = record { widens = record { exprs = extends_same u.exprs; stmts = lengthens_same u.stmts; decls = lengthens_same u.decls; aspects = lengthens_appended a; units = lengthens_same u.units }; units = refl }
 
 pub aspect_builds : {u : Units} {own into : held.Children} (kind : AspectKind) (span : Span) (name : Option Name) {list : List AspectNode} {numbers : List AspectNo} {n : ℕ}
     → Appends AspectNode u.aspects list (record { span = span; kind = kind; name = name; exprs = own.exprs; stmts = own.stmts; decls = own.decls; aspects = own.aspects }) n
@@ -232,18 +238,18 @@ aspect_builds {u} {own} {into} kind span name {list} {numbers} {n} a e os ds und
       stmts = h.stmts;
       decls = h.decls;
       aspects = stands_as (ap (λ (z : List AspectNo). map AspectRef z) e ∙ map-append AspectRef into.aspects (record { 0 = n } ∷ []))
-          (stands_push h.aspects (stands_added (AspectRef (record { 0 = n })) (record { kind = OfAspect kind; span = span; name = written name }) own a.place (aspects_grow a) (ap aspect_node (appended_get a)) under));
+          (stands_push h.aspects (stands_added (AspectRef (record { 0 = n })) (record { kind = OfAspect kind; span = span; name = written name }) own a.place (aspects_grow a).widens (ap aspect_node (appended_get a)) under));
     }
 
-pub units_grow : {u : Units} {list : List declared_unit.Unit} {x : declared_unit.Unit} {n : ℕ} → Appends declared_unit.Unit u.units list x n → Grows u (record u { units = list })
-units_grow {u} a = record { exprs = extends_same u.exprs; stmts = lengthens_same u.stmts; decls = lengthens_same u.decls; aspects = lengthens_same u.aspects; units = lengthens_appended a }
+pub units_widen : {u : Units} {list : List declared_unit.Unit} {x : declared_unit.Unit} {n : ℕ} → Appends declared_unit.Unit u.units list x n → Widens u (record u { units = list })
+units_widen {u} a = record { exprs = extends_same u.exprs; stmts = lengthens_same u.stmts; decls = lengthens_same u.decls; aspects = lengthens_same u.aspects; units = lengthens_appended a }
 
 pub unit_builds : {u : Units} {own : held.Children} (kind : UnitKind) (span : Span) (name : Option Name) (text : List ℕ) {list : List declared_unit.Unit} {n : ℕ}
     → Appends declared_unit.Unit u.units list (record { span = span; kind = kind; name = name; exprs = own.exprs; stmts = own.stmts; decls = own.decls; aspects = own.aspects }) n
     → written name ≡ Some text → (os : Children) → Holds u own os
     → Stands (record u { units = list }) (UnitRef (length u.units) ∷ []) (node_tree (OfUnit kind) span (Some text) os ∷ [])
 unit_builds {u} {own} kind span name text {list} {n} a e os under =
-    let s = stands_added (UnitRef n) (record { kind = OfUnit kind; span = span; name = written name }) own a.place (units_grow a) (ap unit_node (appended_get a)) under in
+    let s = stands_added (UnitRef n) (record { kind = OfUnit kind; span = span; name = written name }) own a.place (units_widen a) (ap unit_node (appended_get a)) under in
     subst (λ (z : ℕ). Stands (record u { units = list }) (UnitRef z ∷ []) (node_tree (OfUnit kind) span (Some text) os ∷ [])) a.place
     (subst (λ (z : Option (List ℕ)). Stands (record u { units = list }) (UnitRef n ∷ []) (node_tree (OfUnit kind) span z os ∷ [])) e s)
 
@@ -258,7 +264,7 @@ expr_holds {u} {into} {numbers} n e ds t h s = record {
 }
 
 pub exprs_grow : {u : Units} {list : List ExprNode} → Extends u.exprs list → Grows u (record u { exprs = list })
-exprs_grow {u} g = record { exprs = g; stmts = lengthens_same u.stmts; decls = lengthens_same u.decls; aspects = lengthens_same u.aspects; units = lengthens_same u.units }
+exprs_grow {u} g = record { widens = record { exprs = g; stmts = lengthens_same u.stmts; decls = lengthens_same u.decls; aspects = lengthens_same u.aspects; units = lengthens_same u.units }; units = refl }
 
 -- an expression that was built, where other expressions are added
 pub built_holds : {u : Units} {into : held.Children} {list : List ExprNode} (n : ExprNo) (t : Tree) → Extends u.exprs list → n.0 < length (trees list) → t ≡ tree_at (trees list) n → (ds : Children) → Holds u into ds

@@ -9,8 +9,8 @@ use Rattle.ada_grammar.specs.Phrases.{Phrase}
 use Rattle.ada_grammar.specs.Grammar.{Part, Body, Never, Gives, Take, Call, Rest, Or, When, rule, Fits, gives, take, call, rest, left, right, yes, no, Spells, more}
 use Rattle.ada_grammar.specs.Reading.{Point, At, Free, Viable, Awaits, Reads, Bars}
 use Rattle.ada_grammar.specs.Taking.{NotFirst, Takes, Stops}
-use Rattle.ada_grammar.proofs.EverySort.{all_sorts, by_sort, one_class}
-use Rattle.ada_grammar.proofs.Begins.{only_if, holds, and_left, and_right, first, null, Starts, starts, sample_phrase, sample, inhabited, Sentence, sentence}
+use Rattle.ada_grammar.proofs.EverySort.{all_sorts, and_left, and_right, by_sort, one_class}
+use Rattle.ada_grammar.proofs.Begins.{only_if, holds, first, null, Starts, starts, sample_phrase, sample, inhabited, Sentence, sentence}
 
 -- tokens that are read stand as they do
 at_more : (k r r' w : List Lexeme) → r ≡ k ++ r' → At r' w → At r (k ++ w)

@@ -106,9 +106,6 @@ named_tree kind t own = node_tree kind t.token.span (Some t.text) own
 abbrev pub statement : StmtKind → Span → Children → Children → Children
 statement kind span own d = with_stmt d (node_tree (OfStmt kind) span None own)
 
-abbrev pub named_statement : StmtKind → Lexeme → Children → Children → Children
-named_statement kind t own d = with_stmt d (named_tree (OfStmt kind) t own)
-
 abbrev pub declared : DeclKind → Lexeme → Children → Children → Children
 declared kind t own d = with_decl d (named_tree (OfDecl kind) t own)
 

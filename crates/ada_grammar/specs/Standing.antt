@@ -91,12 +91,17 @@ pub record Appends (A : Type 0) (old new : List A) (item : A) (at : ℕ) : Type 
   pub joins : new ≡ old ++ item ∷ []
 
 -- the nodes that were there stay, and more may stand behind them
-pub record Grows (old new : Units) : Type 0 where
+pub record Widens (old new : Units) : Type 0 where
   pub exprs : Extends old.exprs new.exprs
   pub stmts : Lengthens StmtNode old.stmts new.stmts
   pub decls : Lengthens DeclNode old.decls new.decls
   pub aspects : Lengthens AspectNode old.aspects new.aspects
   pub units : Lengthens declared_unit.Unit old.units new.units
+
+-- and no unit was added
+pub record Grows (old new : Units) : Type 0 where
+  pub widens : Widens old new
+  pub units : new.units ≡ old.units
 
 -- the next cursor stands no earlier, and among the tokens
 pub record Forth (ts : List Lexeme) (cursor next : Cursor) : Type 0 where

@@ -2,7 +2,7 @@ ghost use Rattle.std.specs.Prelude.{◌≡◌, ◌+◌, [], ◌∷◌, ◌++◌,
 ghost use Rattle.ada_grammar.specs.Built.{written};
 ghost use Rattle.ada_grammar.specs.Lexemes.{lexeme};
 ghost use Rattle.ada_grammar.specs.Phrases as phrases;
-ghost use Rattle.ada_grammar.specs.Standing.{Appends, ExprRef, Grows, Holds, Stands, UnitRef};
+ghost use Rattle.ada_grammar.specs.Standing.{Appends, ExprRef, Grows, Holds, Stands, UnitRef, Widens};
 
 use crate::nodes::{Form, add_named, text};
 use ada_tree::{
@@ -174,24 +174,6 @@ pub fn add_statement(
     push_statement(units, kind, span, None, own, into)
 }
 
-/// Adds a statement with the name that a token has.
-pub fn add_named_statement(
-    alloc: Global,
-    units: &mut Units,
-    tokens: &Tokens,
-    kind: StmtKind,
-    name: Token,
-    own: Children,
-    into: &mut Children,
-) -> Result<(), NoMemory>
-    ensures grows { Grows units.old units.new }
-    ensures builds { IfOk result (λ _. (os ds : phrases.Children) → Holds units.old own os → Holds units.old into.old ds
-        → Holds units.new into.new (phrases.named_statement kind (lexeme tokens.now.source name) os ds)) }
-{
-    let text = Name::new(alloc, text(tokens, name))?;
-    push_statement(units, kind, name.span, Some(text), own, into)
-}
-
 /// Adds a declaration without a name.
 pub fn add_declaration(
     units: &mut Units,
@@ -287,7 +269,7 @@ pub fn add_unit(
     name: Token,
     own: Children,
 ) -> Result<(), NoMemory>
-    ensures grows { Grows units.old units.new }
+    ensures widens { Widens units.old units.new }
     ensures one { IfOk result (λ _. length units.new.units ≡ length units.old.units + 1) }
     ensures builds { IfOk result (λ _. (os : phrases.Children) → Holds units.old own os
         → Stands units.new (UnitRef (length units.old.units) ∷ []) (phrases.named_tree (phrases.OfUnit kind) (lexeme tokens.now.source name) os ∷ [])) }
@@ -439,15 +421,7 @@ mod tests {
             has_loop_name: true,
             has_condition: false,
         };
-        add_named_statement(
-            alloc,
-            &mut units,
-            &tokens,
-            exit,
-            word(0, 1),
-            Children::new(alloc),
-            &mut into,
-        )?;
+        add_statement(&mut units, exit, PART, Children::new(alloc), &mut into)?;
         add_declaration(
             &mut units,
             DeclKind::PrivatePart,

@@ -12,8 +12,8 @@ mod tokens;
 mod weights;
 
 pub use children::{
-    Children, add_aspect, add_declaration, add_end_name, add_expr, add_named_aspect,
-    add_named_statement, add_statement, add_unit, declare, declare_all,
+    Children, add_aspect, add_declaration, add_end_name, add_expr, add_named_aspect, add_statement,
+    add_unit, declare, declare_all,
 };
 pub use laws::{parts_have_sentences, what_is_read, what_is_refused};
 pub use nodes::{

@@ -4,7 +4,7 @@ use Rattle.ada_grammar.specs.Lexemes.{lexeme, lexemes}
 use Rattle.ada_grammar.specs.Grammar as parts
 use Rattle.ada_grammar.specs.Grammar.{mark, word, Gives, Rest, Call}
 use Rattle.ada_grammar.proofs.Steps.{start, opened, seen, unseen}
-use Rattle.ada_exprs.proofs.Found.{absent, present}
+use Rattle.ada_grammar.proofs.Joining.{absent, present}
 use Rattle.ada_exprs.proofs.Found.{opens_not}
 use Rattle.ada_grammar.proofs.Answering.{passes_here}
 use Rattle.ada_exprs.proofs.operators.operator.Goals as goal

@@ -1,7 +1,6 @@
 use Rattle.ada_grammar.specs.Lexemes.{lexemes}
 use Rattle.ada_grammar.specs.Grammar as parts
-use Rattle.ada_grammar.proofs.Standing.{holds_on}
-use Rattle.ada_exprs.proofs.Holding.{exprs_grow}
+use Rattle.ada_grammar.proofs.Standing.{exprs_grow, holds_on}
 use Rattle.ada_exprs.proofs.parts.discrete_range.Goals as goal
 
 pub returns-clause-grows : goal.returns-clause-grows

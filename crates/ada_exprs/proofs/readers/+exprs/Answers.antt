@@ -5,7 +5,8 @@ use Rattle.ada_grammar.specs.declared.tokens.Class.TheVariants as classes
 use Rattle.ada_tree.specs.declared.expressions.ExprKind.TheVariants as kinds
 use Rattle.ada_tree.specs.declared.token.Mark.TheVariants as marks
 use Rattle.ada_tree.specs.declared.words.Reserved.TheVariants as words
-use Rattle.ada_exprs.proofs.Found.{absent, below_one, below_two, hands_on, linked_by, named_none, opened_by, over_none, over_one, over_three, over_two, phrase_stays, present, rest_as, stays_first, suffixed, tick_not, trees_one, trees_two, unlinked, unopened, unsuffixed}
+use Rattle.ada_exprs.proofs.Found.{below_one, below_two, hands_on, linked_by, named_none, opened_by, over_none, over_one, over_three, over_two, phrase_stays, stays_first, suffixed, tick_not, trees_one, trees_two, unlinked, unopened, unsuffixed}
+use Rattle.ada_grammar.proofs.Joining.{absent, present, rest_as}
 use Rattle.ada_exprs.proofs.Suffixing.{by_tick, dotted, ends, may_open, refuses, refuses_last, suffix_not, ticked, untied}
 use Rattle.ada_grammar.proofs.Answering.{answers, fails, fails_last, misses, misses_here, passes, passes_here}
 use Rattle.ada_grammar.proofs.NodeTrees.{extends_on, extends_same, items_below, items_more, within_on}

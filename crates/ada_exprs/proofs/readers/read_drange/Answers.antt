@@ -9,7 +9,8 @@ use Rattle.ada_grammar.specs.Grammar.{mark, word, Gives, Rest, Call}
 use Rattle.ada_grammar.proofs.NodeTrees.{extends_on, within_on}
 use Rattle.ada_grammar.proofs.Steps.{start, seen, unseen, decided, declined, done, go_as}
 use Rattle.ada_grammar.proofs.Answering.{fails, answers, passes}
-use Rattle.ada_exprs.proofs.Found.{absent, present, over_one, over_two}
+use Rattle.ada_exprs.proofs.Found.{over_one, over_two}
+use Rattle.ada_grammar.proofs.Joining.{absent, present}
 use Rattle.ada_exprs.proofs.readers.read_drange.Goals as goal
 
 pub returns-in_err-low-clause-reads : goal.returns-in_err-low-clause-reads

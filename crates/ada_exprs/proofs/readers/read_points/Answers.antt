@@ -7,7 +7,7 @@ use Rattle.ada_grammar.specs.Grammar.{mark, Rest}
 use Rattle.ada_grammar.proofs.NodeTrees.{extends_on, extends_same}
 use Rattle.ada_grammar.proofs.Steps.{seen, unseen, opened, whole, go_as}
 use Rattle.ada_grammar.proofs.Answering.{misses, passes}
-use Rattle.ada_exprs.proofs.Found.{absent, present}
+use Rattle.ada_grammar.proofs.Joining.{absent, present}
 use Rattle.ada_exprs.proofs.readers.read_points.Goals as goal
 
 pub loop-behind-init : goal.loop-behind-init

@@ -10,7 +10,8 @@ use Rattle.ada_grammar.specs.Grammar.{mark, word, Gives}
 use Rattle.ada_grammar.proofs.NodeTrees.{extends_on, within_on}
 use Rattle.ada_grammar.proofs.Steps.{start, seen, unseen, done, go_as}
 use Rattle.ada_grammar.proofs.Answering.{fails, misses, passes}
-use Rattle.ada_exprs.proofs.Found.{absent, present, over_one, over_three}
+use Rattle.ada_exprs.proofs.Found.{over_one, over_three}
+use Rattle.ada_grammar.proofs.Joining.{absent, present}
 use Rattle.ada_exprs.proofs.readers.rest_of_indication.Goals as goal
 
 pub returns-in_err-next-clause-reads : goal.returns-in_err-next-clause-reads
