@@ -1,0 +1,4 @@
+pub mod FoundFiles
+pub mod FoundUnits
+pub mod OneAnswer
+pub mod ToldFiles

@@ -1,0 +1,29 @@
+use Rattle.std.proofs.Common.{refl, true, map, arith, ap}
+use Rattle.ada_tree.specs.declared.token.Mark.TheVariants as marks
+use Rattle.ada_tree.specs.declared.words.Reserved.TheVariants as words
+use Rattle.ada_tree.specs.declared.declarations.DeclKind.TheVariants as decls
+use Rattle.ada_grammar.specs.Lexemes.{lexeme, lexemes}
+use Rattle.ada_grammar.specs.Grammar as parts
+use Rattle.ada_grammar.specs.Grammar.{mark, word, Gives, Call, Rest}
+use Rattle.ada_grammar.proofs.Steps.{start, seen, unseen}
+use Rattle.ada_grammar.proofs.Answering.{passes_here, misses_here}
+use Rattle.ada_grammar.proofs.Joining.{rest_as, absent, present, fault_found, finds_last, goes_on}
+use Rattle.spark_parser.proofs.declarations.null_or_value.Goals as goal
+
+pub returns-in_err-behind_keyword-clause-reads : goal.returns-in_err-behind_keyword-clause-reads
+returns-in_err-behind_keyword-clause-reads c = λ os ds ho hd. fault_found (parts.NullOrValue c.args.head (lexeme c.args.tokens.now.source c.args.name) os ds) (lexemes c.args.tokens.now) c.args.cursor _ _ _ _ (passes_here (lexemes c.args.tokens.now) c.args.cursor c.args.cursor (word words.Null) _ (start (parts.NullOrValue c.args.head (lexeme c.args.tokens.now.source c.args.name) os ds) _) (λ t. refl) c.in_err-behind_keyword.ensures) c.from_residual.ensures.1
+
+pub returns-in-Some-clause-reads : goal.returns-in-Some-clause-reads
+returns-in-Some-clause-reads c = λ os ds ho hd. finds_last (lexemes c.args.tokens.now) c.args.cursor c.in-Some.behind_keyword _ _ _ (rest_as (λ z. parts.Closing (decls.SubprogramDeclaration c.args.head true) z os ds) (ap (λ z. map (lexeme c.args.tokens.now.source) z) c.in_ok-names.ensures) (seen (start (parts.NullOrValue c.args.head (lexeme c.args.tokens.now.source c.args.name) os ds) _) (present (word words.Null) (lexeme c.args.tokens.now.source) (lexemes c.args.tokens.now) c.args.cursor c.in_ok-behind_keyword.ensures c.in-Some.is).takes refl)) (omega (arith, (present (word words.Null) (lexeme c.args.tokens.now.source) (lexemes c.args.tokens.now) c.args.cursor c.in_ok-behind_keyword.ensures c.in-Some.is).place)) refl (c.closing.ensures.reads _ _ ho hd)
+
+pub returns-in-Some-clause-goes : goal.returns-in-Some-clause-goes
+returns-in-Some-clause-goes c = goes_on (lexemes c.args.tokens.now) c.args.cursor c.in-Some.behind_keyword _ (omega (arith, (present (word words.Null) (lexeme c.args.tokens.now.source) (lexemes c.args.tokens.now) c.args.cursor c.in_ok-behind_keyword.ensures c.in-Some.is).place)) c.closing.ensures.goes
+
+pub returns-in_err-behind_opening-clause-reads : goal.returns-in_err-behind_opening-clause-reads
+returns-in_err-behind_opening-clause-reads c = λ os ds ho hd. fault_found (parts.NullOrValue c.args.head (lexeme c.args.tokens.now.source c.args.name) os ds) (lexemes c.args.tokens.now) c.args.cursor _ _ _ _ (misses_here (lexemes c.args.tokens.now) c.args.cursor c.args.cursor (mark marks.Open) _ c.requires.at (unseen (start (parts.NullOrValue c.args.head (lexeme c.args.tokens.now.source c.args.name) os ds) _) (absent (word words.Null) (lexeme c.args.tokens.now.source) (lexemes c.args.tokens.now) c.args.cursor c.in_ok-behind_keyword.ensures c.in_default.is)) refl (λ t. refl) c.in_err-behind_opening.ensures) c.from_residual-in_err-behind_opening.ensures.1
+
+pub returns-clause-reads : goal.returns-clause-reads
+returns-clause-reads c = λ os ds ho hd. finds_last (lexemes c.args.tokens.now) c.args.cursor c.in_ok-behind_opening.behind_opening _ _ _ (seen (unseen (start (parts.NullOrValue c.args.head (lexeme c.args.tokens.now.source c.args.name) os ds) _) (absent (word words.Null) (lexeme c.args.tokens.now.source) (lexemes c.args.tokens.now) c.args.cursor c.in_ok-behind_keyword.ensures c.in_default.is)) c.in_ok-behind_opening.ensures.takes refl) (omega (arith, c.in_ok-behind_opening.ensures.place)) refl (c.value.ensures.reads _ _ ho hd)
+
+pub returns-clause-goes : goal.returns-clause-goes
+returns-clause-goes c = goes_on (lexemes c.args.tokens.now) c.args.cursor c.in_ok-behind_opening.behind_opening _ (omega (arith, c.in_ok-behind_opening.ensures.place)) c.value.ensures.goes

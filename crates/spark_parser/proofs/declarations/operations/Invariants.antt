@@ -1,0 +1,19 @@
+use Rattle.std.proofs.Common.{◌≤◌, length, ◌-◌}
+use Rattle.ada_grammar.specs.Lexemes.{lexemes}
+use Rattle.ada_grammar.specs.Phrases as phrases
+use Rattle.ada_grammar.specs.Grammar as parts
+use Rattle.ada_grammar.specs.Grammar.{mark, word, Gives, Call, Rest}
+use Rattle.ada_grammar.specs.Standing.{Holds, Grows}
+use Rattle.ada_grammar.specs.Reading.{Awaits, point}
+use Rattle.spark_parser.proofs.declarations.operations.Given as goal
+
+abbrev pub invariant-loop-first : goal.invariant-loop-first
+invariant-loop-first l = record {
+  forward : l.fn.cursor.at ≤ l.next.at;
+  ends : l.next.at ≤ length (lexemes l.tokens);
+  grows : Grows l.fn.units l.units;
+  awaits : (ds : phrases.Children) → Holds l.fn.units l.fn.into ds → (x : phrases.Children) × Holds l.units l.into x × Awaits (parts.Operations ds) (point (lexemes l.tokens) l.fn.cursor) (point (lexemes l.tokens) l.next) (Rest (parts.Operations x));
+}
+
+abbrev pub decreases-loop-first : goal.decreases-loop-first
+decreases-loop-first l = length (lexemes l.tokens) - l.next.at

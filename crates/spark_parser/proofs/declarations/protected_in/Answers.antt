@@ -1,0 +1,32 @@
+use Rattle.std.proofs.Common.{refl, arith}
+use Rattle.ada_tree.specs.declared.forms.Region.TheVariants as regions
+use Rattle.ada_grammar.specs.Lexemes.{lexemes}
+use Rattle.ada_grammar.specs.Grammar as parts
+use Rattle.ada_grammar.specs.Grammar.{mark, word, Gives, Call, Rest}
+use Rattle.ada_grammar.proofs.Steps.{start}
+use Rattle.ada_grammar.proofs.Joining.{finds_last, goes_on, of_form}
+use Rattle.spark_parser.proofs.declarations.protected_in.Goals as goal
+
+pub returns-in-Body-clause-reads : goal.returns-in-Body-clause-reads
+returns-in-Body-clause-reads c = λ ds hd. of_form (λ z. (parts.ProtectedIn z ds)) (lexemes c.args.tokens.now) c.args.cursor _ _ _ c.in-Body.is (finds_last (lexemes c.args.tokens.now) c.args.cursor c.args.cursor _ _ _ (start (parts.ProtectedIn regions.Body ds) _) (omega arith) refl (c.protected_in_body.ensures.reads _ hd))
+
+pub returns-in-Body-clause-goes : goal.returns-in-Body-clause-goes
+returns-in-Body-clause-goes c = goes_on (lexemes c.args.tokens.now) c.args.cursor c.args.cursor _ (omega arith) c.protected_in_body.ensures.goes
+
+pub returns-in-Spec-clause-reads : goal.returns-in-Spec-clause-reads
+returns-in-Spec-clause-reads c = λ ds hd. of_form (λ z. (parts.ProtectedIn z ds)) (lexemes c.args.tokens.now) c.args.cursor _ _ _ c.in-Spec.is (finds_last (lexemes c.args.tokens.now) c.args.cursor c.args.cursor _ _ _ (start (parts.ProtectedIn regions.Spec ds) _) (omega arith) refl (c.protected.ensures.reads _ hd))
+
+pub returns-in-Spec-clause-goes : goal.returns-in-Spec-clause-goes
+returns-in-Spec-clause-goes c = goes_on (lexemes c.args.tokens.now) c.args.cursor c.args.cursor _ (omega arith) c.protected.ensures.goes
+
+pub returns-in-Protected-clause-reads : goal.returns-in-Protected-clause-reads
+returns-in-Protected-clause-reads c = λ ds hd. of_form (λ z. (parts.ProtectedIn z ds)) (lexemes c.args.tokens.now) c.args.cursor _ _ _ c.in-Protected.is (finds_last (lexemes c.args.tokens.now) c.args.cursor c.args.cursor _ _ _ (start (parts.ProtectedIn regions.Protected ds) _) (omega arith) refl (c.protected-in-Protected.ensures.reads _ hd))
+
+pub returns-in-Protected-clause-goes : goal.returns-in-Protected-clause-goes
+returns-in-Protected-clause-goes c = goes_on (lexemes c.args.tokens.now) c.args.cursor c.args.cursor _ (omega arith) c.protected-in-Protected.ensures.goes
+
+pub returns-in-ProtectedBody-clause-reads : goal.returns-in-ProtectedBody-clause-reads
+returns-in-ProtectedBody-clause-reads c = λ ds hd. of_form (λ z. (parts.ProtectedIn z ds)) (lexemes c.args.tokens.now) c.args.cursor _ _ _ c.in-ProtectedBody.is (finds_last (lexemes c.args.tokens.now) c.args.cursor c.args.cursor _ _ _ (start (parts.ProtectedIn regions.ProtectedBody ds) _) (omega arith) refl (c.protected-in-ProtectedBody.ensures.reads _ hd))
+
+pub returns-in-ProtectedBody-clause-goes : goal.returns-in-ProtectedBody-clause-goes
+returns-in-ProtectedBody-clause-goes c = goes_on (lexemes c.args.tokens.now) c.args.cursor c.args.cursor _ (omega arith) c.protected-in-ProtectedBody.ensures.goes
