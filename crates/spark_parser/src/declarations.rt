@@ -212,7 +212,7 @@ fn behind_head(
     region: Region,
     head: Head,
     name: Token,
-    mut own: Children,
+    own: Children,
     into: &mut Children,
 ) -> Result<Cursor, Fault>
     requires at { cursor.at ≤ length (lexemes tokens.now) }
@@ -238,7 +238,7 @@ fn null_or_value(
     cursor: Cursor,
     head: Head,
     name: Token,
-    mut own: Children,
+    own: Children,
     into: &mut Children,
 ) -> Result<Cursor, Fault>
     requires at { cursor.at ≤ length (lexemes tokens.now) }
@@ -274,7 +274,7 @@ fn any_completion(
     cursor: Cursor,
     head: Head,
     name: Token,
-    mut own: Children,
+    own: Children,
     into: &mut Children,
 ) -> Result<Cursor, Fault>
     requires at { cursor.at ≤ length (lexemes tokens.now) }
@@ -309,7 +309,7 @@ fn value_or_body(
     cursor: Cursor,
     head: Head,
     name: Token,
-    mut own: Children,
+    own: Children,
     into: &mut Children,
 ) -> Result<Cursor, Fault>
     requires at { cursor.at ≤ length (lexemes tokens.now) }
@@ -460,7 +460,7 @@ fn task_definition(
     cursor: Cursor,
     kind: DeclKind,
     name: Token,
-    mut own: Children,
+    own: Children,
     into: &mut Children,
 ) -> Result<Cursor, Fault>
     requires at { cursor.at ≤ length (lexemes tokens.now) }
@@ -1105,7 +1105,7 @@ fn head_in_protected(
     cursor: Cursor,
     head: Head,
     name: Token,
-    mut own: Children,
+    own: Children,
     into: &mut Children,
 ) -> Result<Cursor, Fault>
     requires at { cursor.at ≤ length (lexemes tokens.now) }

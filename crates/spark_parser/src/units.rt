@@ -164,7 +164,7 @@ pub fn package_unit(
     units: &mut Units,
     tokens: &Tokens,
     cursor: Cursor,
-    mut own: Children,
+    own: Children,
 ) -> Result<Cursor, Fault>
     requires at { cursor.at ≤ length (lexemes tokens.now) }
     ensures widens { Widens units.old units.new }
