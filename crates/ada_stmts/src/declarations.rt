@@ -14,6 +14,10 @@ use ada_tree::{DeclKind, LocalForm, Mark, Naming, Reserved, Token, Tokens, Units
 use spark_base::{Items, NoMemory, Span};
 use std::alloc::Global;
 
+/// Each of several names that are declared together has the numbers of all their aspects. So that trees are linear in their
+/// source, more names than these with more aspects than these are want of memory.
+const MOST_SHARED: usize = 64;
+
 /// One name.
 pub fn only(alloc: Global, name: Token) -> Result<Items<Token>, NoMemory>
     ensures { IfOk result (λ names. names ≡ name ∷ []) }
@@ -67,6 +71,9 @@ pub fn closing(
     if let Some((_, behind_keyword)) = accept(tokens, cursor, Class::Reserved(Reserved::With))? {
         let behind_behind_with = behind_with(alloc, units, tokens, behind_keyword, &mut own)?;
         let (_, behind_end) = expect(tokens, behind_behind_with, Class::Mark(Mark::Semicolon))?;
+        if names.len() > MOST_SHARED && own.aspects.len() > MOST_SHARED {
+            return Err(Fault::NoMemory);
+        }
         declare_all(alloc, units, tokens, kind, names, own, into)?;
         return Ok(behind_end);
     }

@@ -163,7 +163,7 @@ fn labelled(
     tokens: &Tokens,
     cursor: Cursor,
     first: Token,
-    mut own: Children,
+    own: Children,
     into: &mut Children,
 ) -> Result<Cursor, Fault>
     requires at { cursor.at ≤ length (lexemes tokens.now) }
@@ -363,7 +363,7 @@ fn for_loop(
     cursor: Cursor,
     labelled: bool,
     first: Token,
-    mut own: Children,
+    own: Children,
     into: &mut Children,
 ) -> Result<Cursor, Fault>
     requires at { cursor.at ≤ length (lexemes tokens.now) }
@@ -555,7 +555,7 @@ fn end_if(
     cursor: Cursor,
     kind: StmtKind,
     span: Span,
-    mut own: Children,
+    own: Children,
     into: &mut Children,
 ) -> Result<Cursor, Fault>
     requires at { cursor.at ≤ length (lexemes tokens.now) }

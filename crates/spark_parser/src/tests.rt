@@ -151,6 +151,36 @@ fn parentheses_are_bounded(rt: HostRuntime) -> Result<(), Fail> {
     Ok(())
 }
 
+/// A declaration of so many names behind the first, with so many aspects behind the first.
+fn shared(
+    alloc: Global,
+    further_names: usize,
+    further_aspects: usize,
+) -> Result<Vec<u8>, NoMemory> {
+    let mut source = repeated(
+        alloc,
+        "package P is A",
+        (", A", further_names),
+        " : T with B",
+    )?;
+    source.extend_from_slice(repeated(alloc, "", (", B", further_aspects), "; end;")?.as_slice())?;
+    Ok(source)
+}
+
+#[test]
+fn many_names_do_not_share_many_aspects(rt: HostRuntime) -> Result<(), Fail> {
+    let alloc = rt.alloc();
+    for (names, aspects) in [(63, 499), (499, 63)] {
+        let source = shared(alloc, names, aspects)?;
+        assert_eq!(rt;
+            answer_of(alloc, source.as_slice())?,
+            Answer::Read { units: 1 }
+        );
+    }
+    assert!(rt; answer_of(alloc, shared(alloc, 64, 64)?.as_slice()).is_err());
+    Ok(())
+}
+
 #[test]
 fn loops_are_bounded(rt: HostRuntime) -> Result<(), Fail> {
     let alloc = rt.alloc();
