@@ -1,4 +1,4 @@
-use crate::lex;
+use crate::{LIMIT, lex};
 use ada_tree::{Mark, Reserved, Token, TokenKind, Tokens};
 use spark_base::{Bytes, FileNo, NoMemory, Pos, Span};
 use spark_messages::{Code, Kind, Message, PhaseFault};
@@ -150,7 +150,7 @@ fn refusals_stand_at_their_places(rt: HostRuntime) -> Result<(), Fail> {
 #[test]
 fn a_source_has_a_limit(rt: HostRuntime) -> Result<(), Fail> {
     let alloc = rt.alloc();
-    let blanks = vec![in alloc; b' '; 4_194_305]?;
+    let blanks = vec![in alloc; b' '; LIMIT as usize + 1]?;
     let place = Pos { line: 1, col: 1 };
     let message = message(alloc, Code::X01, place, "too many bytes")?;
     assert_eq!(rt; refusal_of(alloc, &blanks)?, Some(message));
