@@ -16,5 +16,5 @@ mod scan;
 #[cfg(test)]
 mod tests;
 
-pub use laws::{longest_fronts, number_parts, number_values, tokens_in_order};
+pub use laws::{longest_fronts, number_parts, number_values, pieces_joined, tokens_in_order};
 pub use lexing::{LIMIT, lex};

@@ -98,50 +98,41 @@ fn counts_and_last_kinds(rt: HostRuntime) -> Result<(), Fail> {
     Ok(())
 }
 
+/// The text of a refusal, as a user reads it.
+fn text_of(code: Code) -> &'static str {
+    match code {
+        Code::L01 => "byte outside ASCII",
+        Code::L02 => "malformed number",
+        Code::L03 => "number past 128 bits",
+        _ => "unknown character",
+    }
+}
+
 #[test]
 fn refusals_stand_at_their_places(rt: HostRuntime) -> Result<(), Fail> {
     let sources = [
-        (b"1_".as_slice(), Code::L02, 1, 1, "malformed number"),
-        (b"1E-1".as_slice(), Code::L02, 1, 1, "malformed number"),
-        (b"2#2#".as_slice(), Code::L02, 1, 1, "malformed number"),
-        (b"1.5".as_slice(), Code::L02, 1, 1, "malformed number"),
-        (b"16#F#_".as_slice(), Code::L04, 1, 6, "unknown character"),
-        (b"1E1#".as_slice(), Code::L04, 1, 4, "unknown character"),
-        (
-            b"\"a\"\"b\n".as_slice(),
-            Code::L04,
-            1,
-            1,
-            "unknown character",
-        ),
-        (b"\"\xC8\n".as_slice(), Code::L04, 1, 1, "unknown character"),
-        (
-            b"\"\xC8\"".as_slice(),
-            Code::L01,
-            1,
-            2,
-            "byte outside ASCII",
-        ),
-        (
-            b"x\n \xC8".as_slice(),
-            Code::L01,
-            2,
-            2,
-            "byte outside ASCII",
-        ),
-        (b"A__B".as_slice(), Code::L04, 1, 2, "unknown character"),
-        (b"\x7F".as_slice(), Code::L04, 1, 1, "unknown character"),
+        (b"1_".as_slice(), Code::L02, 1, 1),
+        (b"1E-1".as_slice(), Code::L02, 1, 1),
+        (b"2#2#".as_slice(), Code::L02, 1, 1),
+        (b"1.5".as_slice(), Code::L02, 1, 1),
+        (b"16#F#_".as_slice(), Code::L04, 1, 6),
+        (b"1E1#".as_slice(), Code::L04, 1, 4),
+        (b"\"a\"\"b\n".as_slice(), Code::L04, 1, 1),
+        (b"\"\xC8\n".as_slice(), Code::L04, 1, 1),
+        (b"\"\xC8\"".as_slice(), Code::L01, 1, 2),
+        (b"x\n \xC8".as_slice(), Code::L01, 2, 2),
+        (b"A__B".as_slice(), Code::L04, 1, 2),
+        (b"\x7F".as_slice(), Code::L04, 1, 1),
         (
             b"340282366920938463463374607431768211456".as_slice(),
             Code::L03,
             1,
             1,
-            "number past 128 bits",
         ),
     ];
-    for (source, code, line, col, text) in sources {
+    for (source, code, line, col) in sources {
         let place = Pos { line, col };
-        let message = message(rt.alloc(), code, place, text)?;
+        let message = message(rt.alloc(), code, place, text_of(code))?;
         assert_eq!(rt; refusal_of(rt.alloc(), source)?, Some(message));
     }
     Ok(())
