@@ -147,11 +147,7 @@ are_read all i {u} {ms} past none s =
     let a = all_files all i past s in
     record { units = a.units; told = subst (λ (z : List Message). Told all a.units z) none a.told; stands = a.stands none }
 
-pub are_refused : (all : List Tokens) (i : ℕ) {u : Units} {ms ns : List Message} → length all ≤ i → (ms ≡ [] → false ≡ true) → ns ≡ ms → AreSoFar (take i all) u ms → AreRefused all ns
-are_refused all i {u} {ms} {ns} past some same s =
+pub are_refused : (all : List Tokens) (i : ℕ) {u : Units} {ms : List Message} → length all ≤ i → (ms ≡ [] → false ≡ true) → AreSoFar (take i all) u ms → AreRefused all ms
+are_refused all i {u} {ms} past some s =
     let a = all_files all i past s in
-    record {
-      units = a.units;
-      told = subst (λ (z : List Message). Told all a.units z) (sym same) a.told;
-      some = λ e. let f : false ≡ true = some (sym same ∙ e) in (cc);
-    }
+    record { units = a.units; told = a.told; some = λ e. let f : false ≡ true = some e in (cc) }

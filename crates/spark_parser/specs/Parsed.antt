@@ -64,5 +64,5 @@ pub record AreRefused (all : List Tokens) (ms : List Message) : Type 0 where
 -- what the parser answers; of want of memory nothing is said
 abbrev pub IsAnswer : List Tokens → Result Units ParseFault → Type 0
 IsAnswer all (Ok u) = AreRead all u
-IsAnswer all (Err (refusals.Refused ms)) = AreRefused all ms.items
+IsAnswer all (Err (refusals.Refused ms)) = AreRefused all ms
 IsAnswer all (Err refusals.NoMemory) = Unit {0}

@@ -13,7 +13,7 @@ use std::alloc::Global;
 #[derive(Debug, Drop)]
 pub enum ParseFault {
     /// The first refusal of each file that is refused, in the order of the files; there is one at least.
-    Refused(Vec<Message>),
+    Refused(Items<Message>),
     /// Memory was refused.
     NoMemory,
 }
@@ -89,6 +89,6 @@ pub fn parse(alloc: Global, all: &[Tokens]) -> Result<Units, ParseFault>
     if refusals.is_empty() {
         Ok(units)
     } else {
-        Err(ParseFault::Refused(refusals.into_vec()))
+        Err(ParseFault::Refused(refusals))
     }
 }

@@ -201,44 +201,44 @@ if_statement-returns-in_err-next-clause-grows t c = (grows_on c.in_ok-behind_val
 pub if_statement-loop-own-init : goal.if_statement-loop-own-init
 if_statement-loop-own-init t c = record { forward = omega (arith, c.in_ok-behind_value.ensures.goes.forward, c.in_ok-behind_keyword.ensures.place, c.in_ok-next.ensures.goes.forward); ends = c.in_ok-next.ensures.goes.ends; grows = (grows_on c.in_ok-behind_value.ensures.grows c.in_ok-next.ensures.grows); awaits = λ ds hd. let f1 = c.in_ok-behind_value.ensures.reads _ (c.new-own.ensures _) in let f2 = c.in_ok-next.ensures.reads _ f1.holds in (f2.children, f2.holds, (holds_on c.in_ok-next.ensures.grows (holds_on c.in_ok-behind_value.ensures.grows hd)), (done (seen (done (start (parts.If (lexeme c.args.tokens.now.source c.args.first) ds) _) f1.reads (λ b. refl)) c.in_ok-behind_keyword.ensures.takes refl) f2.reads (λ b. refl))) }
 
-pub if_statement-returns-in_err-behind_keyword_2-clause-reads : goal.if_statement-returns-in_err-behind_keyword_2-clause-reads
-if_statement-returns-in_err-behind_keyword_2-clause-reads t c = λ ds hd. let y = c.loop-own.invariant.awaits ds hd in fault_found (parts.If (lexeme c.args.tokens.now.source c.args.first) ds) (lexemes c.args.tokens.now) c.args.cursor _ _ _ _ (passes_here (lexemes c.args.tokens.now) c.args.cursor c.loop-own.next (word words.Elsif) _ (opened y.3) (λ t. refl) c.in_err-behind_keyword_2.ensures) c.from_residual-in_err-behind_keyword_2.ensures.1
+pub if_statement-returns-in_err-behind_elsif-clause-reads : goal.if_statement-returns-in_err-behind_elsif-clause-reads
+if_statement-returns-in_err-behind_elsif-clause-reads t c = λ ds hd. let y = c.loop-own.invariant.awaits ds hd in fault_found (parts.If (lexeme c.args.tokens.now.source c.args.first) ds) (lexemes c.args.tokens.now) c.args.cursor _ _ _ _ (passes_here (lexemes c.args.tokens.now) c.args.cursor c.loop-own.next (word words.Elsif) _ (opened y.3) (λ t. refl) c.in_err-behind_elsif.ensures) c.from_residual-in_err-behind_elsif.ensures.1
 
 pub if_statement-returns-in_err-behind_value_2-clause-reads : goal.if_statement-returns-in_err-behind_value_2-clause-reads
-if_statement-returns-in_err-behind_value_2-clause-reads t c = λ ds hd. let y = c.loop-own.invariant.awaits ds hd in fault_found (parts.If (lexeme c.args.tokens.now.source c.args.first) ds) (lexemes c.args.tokens.now) c.args.cursor _ _ _ _ (refuses (lexemes c.args.tokens.now) c.args.cursor c.in-Some.behind_keyword_2 _ (seen (opened y.3) (present (word words.Elsif) (lexeme c.args.tokens.now.source) (lexemes c.args.tokens.now) c.loop-own.next c.in_ok-behind_keyword_2.ensures c.in-Some.is).takes refl) (λ b. refl) (c.in_err-behind_value_2.ensures.reads _ y.1)) c.from_residual-in_err-behind_value_2.ensures.1
+if_statement-returns-in_err-behind_value_2-clause-reads t c = λ ds hd. let y = c.loop-own.invariant.awaits ds hd in fault_found (parts.If (lexeme c.args.tokens.now.source c.args.first) ds) (lexemes c.args.tokens.now) c.args.cursor _ _ _ _ (refuses (lexemes c.args.tokens.now) c.args.cursor c.in-Some.behind_elsif _ (seen (opened y.3) (present (word words.Elsif) (lexeme c.args.tokens.now.source) (lexemes c.args.tokens.now) c.loop-own.next c.in_ok-behind_elsif.ensures c.in-Some.is).takes refl) (λ b. refl) (c.in_err-behind_value_2.ensures.reads _ y.1)) c.from_residual-in_err-behind_value_2.ensures.1
 
 pub if_statement-returns-in_err-behind_value_2-clause-grows : goal.if_statement-returns-in_err-behind_value_2-clause-grows
 if_statement-returns-in_err-behind_value_2-clause-grows t c = (grows_on c.loop-own.invariant.grows c.in_err-behind_value_2.ensures.grows)
 
 pub if_statement-returns-in_err-behind_behind-clause-reads : goal.if_statement-returns-in_err-behind_behind-clause-reads
-if_statement-returns-in_err-behind_behind-clause-reads t c = λ ds hd. let y = c.loop-own.invariant.awaits ds hd in let f2 = c.in_ok-behind_value_2.ensures.reads _ y.1 in fault_found (parts.If (lexeme c.args.tokens.now.source c.args.first) ds) (lexemes c.args.tokens.now) c.args.cursor _ _ _ _ (misses_here (lexemes c.args.tokens.now) c.args.cursor c.in_ok-behind_value_2.behind_value_2 (word words.Then) _ c.in_ok-behind_value_2.ensures.goes.ends (done (seen (opened y.3) (present (word words.Elsif) (lexeme c.args.tokens.now.source) (lexemes c.args.tokens.now) c.loop-own.next c.in_ok-behind_keyword_2.ensures c.in-Some.is).takes refl) f2.reads (λ b. refl)) refl (λ t. refl) c.in_err-behind_behind.ensures) c.from_residual-in_err-behind_behind.ensures.1
+if_statement-returns-in_err-behind_behind-clause-reads t c = λ ds hd. let y = c.loop-own.invariant.awaits ds hd in let f2 = c.in_ok-behind_value_2.ensures.reads _ y.1 in fault_found (parts.If (lexeme c.args.tokens.now.source c.args.first) ds) (lexemes c.args.tokens.now) c.args.cursor _ _ _ _ (misses_here (lexemes c.args.tokens.now) c.args.cursor c.in_ok-behind_value_2.behind_value_2 (word words.Then) _ c.in_ok-behind_value_2.ensures.goes.ends (done (seen (opened y.3) (present (word words.Elsif) (lexeme c.args.tokens.now.source) (lexemes c.args.tokens.now) c.loop-own.next c.in_ok-behind_elsif.ensures c.in-Some.is).takes refl) f2.reads (λ b. refl)) refl (λ t. refl) c.in_err-behind_behind.ensures) c.from_residual-in_err-behind_behind.ensures.1
 
 pub if_statement-returns-in_err-behind_behind-clause-grows : goal.if_statement-returns-in_err-behind_behind-clause-grows
 if_statement-returns-in_err-behind_behind-clause-grows t c = (grows_on c.loop-own.invariant.grows c.in_ok-behind_value_2.ensures.grows)
 
 pub if_statement-returns-in_err-next-2-clause-reads : goal.if_statement-returns-in_err-next-2-clause-reads
-if_statement-returns-in_err-next-2-clause-reads t c = λ ds hd. let y = c.loop-own.invariant.awaits ds hd in let f2 = c.in_ok-behind_value_2.ensures.reads _ y.1 in fault_found (parts.If (lexeme c.args.tokens.now.source c.args.first) ds) (lexemes c.args.tokens.now) c.args.cursor _ _ _ _ (refuses (lexemes c.args.tokens.now) c.args.cursor c.in_ok-behind_behind.behind_behind _ (seen (done (seen (opened y.3) (present (word words.Elsif) (lexeme c.args.tokens.now.source) (lexemes c.args.tokens.now) c.loop-own.next c.in_ok-behind_keyword_2.ensures c.in-Some.is).takes refl) f2.reads (λ b. refl)) c.in_ok-behind_behind.ensures.takes refl) (λ b. refl) (c.in_err-next-2.ensures.reads _ f2.holds)) c.from_residual-in_err-next-2.ensures.1
+if_statement-returns-in_err-next-2-clause-reads t c = λ ds hd. let y = c.loop-own.invariant.awaits ds hd in let f2 = c.in_ok-behind_value_2.ensures.reads _ y.1 in fault_found (parts.If (lexeme c.args.tokens.now.source c.args.first) ds) (lexemes c.args.tokens.now) c.args.cursor _ _ _ _ (refuses (lexemes c.args.tokens.now) c.args.cursor c.in_ok-behind_behind.behind_behind _ (seen (done (seen (opened y.3) (present (word words.Elsif) (lexeme c.args.tokens.now.source) (lexemes c.args.tokens.now) c.loop-own.next c.in_ok-behind_elsif.ensures c.in-Some.is).takes refl) f2.reads (λ b. refl)) c.in_ok-behind_behind.ensures.takes refl) (λ b. refl) (c.in_err-next-2.ensures.reads _ f2.holds)) c.from_residual-in_err-next-2.ensures.1
 
 pub if_statement-returns-in_err-next-2-clause-grows : goal.if_statement-returns-in_err-next-2-clause-grows
 if_statement-returns-in_err-next-2-clause-grows t c = (grows_on (grows_on c.loop-own.invariant.grows c.in_ok-behind_value_2.ensures.grows) c.in_err-next-2.ensures.grows)
 
 pub if_statement-loop-own-preserved : goal.if_statement-loop-own-preserved
-if_statement-loop-own-preserved t c = record { forward = omega (arith, c.loop-own.invariant.forward, (present (word words.Elsif) (lexeme c.args.tokens.now.source) (lexemes c.args.tokens.now) c.loop-own.next c.in_ok-behind_keyword_2.ensures c.in-Some.is).place, c.in_ok-behind_value_2.ensures.goes.forward, c.in_ok-behind_behind.ensures.place, c.in_ok-next-2.ensures.goes.forward); ends = c.in_ok-next-2.ensures.goes.ends; grows = (grows_on (grows_on c.loop-own.invariant.grows c.in_ok-behind_value_2.ensures.grows) c.in_ok-next-2.ensures.grows); awaits = λ ds hd. let y = c.loop-own.invariant.awaits ds hd in let f2 = c.in_ok-behind_value_2.ensures.reads _ y.1 in let f3 = c.in_ok-next-2.ensures.reads _ f2.holds in (f3.children, f3.holds, (holds_on c.in_ok-next-2.ensures.grows (holds_on c.in_ok-behind_value_2.ensures.grows y.2)), (done (seen (done (seen (opened y.3) (present (word words.Elsif) (lexeme c.args.tokens.now.source) (lexemes c.args.tokens.now) c.loop-own.next c.in_ok-behind_keyword_2.ensures c.in-Some.is).takes refl) f2.reads (λ b. refl)) c.in_ok-behind_behind.ensures.takes refl) f3.reads (λ b. refl))) }
+if_statement-loop-own-preserved t c = record { forward = omega (arith, c.loop-own.invariant.forward, (present (word words.Elsif) (lexeme c.args.tokens.now.source) (lexemes c.args.tokens.now) c.loop-own.next c.in_ok-behind_elsif.ensures c.in-Some.is).place, c.in_ok-behind_value_2.ensures.goes.forward, c.in_ok-behind_behind.ensures.place, c.in_ok-next-2.ensures.goes.forward); ends = c.in_ok-next-2.ensures.goes.ends; grows = (grows_on (grows_on c.loop-own.invariant.grows c.in_ok-behind_value_2.ensures.grows) c.in_ok-next-2.ensures.grows); awaits = λ ds hd. let y = c.loop-own.invariant.awaits ds hd in let f2 = c.in_ok-behind_value_2.ensures.reads _ y.1 in let f3 = c.in_ok-next-2.ensures.reads _ f2.holds in (f3.children, f3.holds, (holds_on c.in_ok-next-2.ensures.grows (holds_on c.in_ok-behind_value_2.ensures.grows y.2)), (done (seen (done (seen (opened y.3) (present (word words.Elsif) (lexeme c.args.tokens.now.source) (lexemes c.args.tokens.now) c.loop-own.next c.in_ok-behind_elsif.ensures c.in-Some.is).takes refl) f2.reads (λ b. refl)) c.in_ok-behind_behind.ensures.takes refl) f3.reads (λ b. refl))) }
 
 pub if_statement-loop-own-smaller : goal.if_statement-loop-own-smaller
-if_statement-loop-own-smaller t c = omega (arith, (present (word words.Elsif) (lexeme c.args.tokens.now.source) (lexemes c.args.tokens.now) c.loop-own.next c.in_ok-behind_keyword_2.ensures c.in-Some.is).place, c.in_ok-behind_value_2.ensures.goes.forward, c.in_ok-behind_behind.ensures.place, c.in_ok-next-2.ensures.goes.forward, (present (word words.Elsif) (lexeme c.args.tokens.now.source) (lexemes c.args.tokens.now) c.loop-own.next c.in_ok-behind_keyword_2.ensures c.in-Some.is).within)
+if_statement-loop-own-smaller t c = omega (arith, (present (word words.Elsif) (lexeme c.args.tokens.now.source) (lexemes c.args.tokens.now) c.loop-own.next c.in_ok-behind_elsif.ensures c.in-Some.is).place, c.in_ok-behind_value_2.ensures.goes.forward, c.in_ok-behind_behind.ensures.place, c.in_ok-next-2.ensures.goes.forward, (present (word words.Elsif) (lexeme c.args.tokens.now.source) (lexemes c.args.tokens.now) c.loop-own.next c.in_ok-behind_elsif.ensures c.in-Some.is).within)
 
 pub if_statement-returns-in_err-behind_keyword_3-clause-reads : goal.if_statement-returns-in_err-behind_keyword_3-clause-reads
-if_statement-returns-in_err-behind_keyword_3-clause-reads t c = λ ds hd. let y = c.loop-own.invariant.awaits ds hd in fault_found (parts.If (lexeme c.args.tokens.now.source c.args.first) ds) (lexemes c.args.tokens.now) c.args.cursor _ _ _ _ (passes_here (lexemes c.args.tokens.now) c.args.cursor c.loop-own.next (word words.Else) _ (unseen (opened y.3) (absent (word words.Elsif) (lexeme c.args.tokens.now.source) (lexemes c.args.tokens.now) c.loop-own.next c.in_ok-behind_keyword_2.ensures c.in_default.is)) (λ t. refl) c.in_err-behind_keyword_3.ensures) c.from_residual-in_err-behind_keyword_3.ensures.1
+if_statement-returns-in_err-behind_keyword_3-clause-reads t c = λ ds hd. let y = c.loop-own.invariant.awaits ds hd in fault_found (parts.If (lexeme c.args.tokens.now.source c.args.first) ds) (lexemes c.args.tokens.now) c.args.cursor _ _ _ _ (passes_here (lexemes c.args.tokens.now) c.args.cursor c.loop-own.next (word words.Else) _ (unseen (opened y.3) (absent (word words.Elsif) (lexeme c.args.tokens.now.source) (lexemes c.args.tokens.now) c.loop-own.next c.in_ok-behind_elsif.ensures c.in_default.is)) (λ t. refl) c.in_err-behind_keyword_3.ensures) c.from_residual-in_err-behind_keyword_3.ensures.1
 
 pub if_statement-returns-in_err-behind_statements-clause-reads : goal.if_statement-returns-in_err-behind_statements-clause-reads
-if_statement-returns-in_err-behind_statements-clause-reads t c = λ ds hd. let y = c.loop-own.invariant.awaits ds hd in fault_found (parts.If (lexeme c.args.tokens.now.source c.args.first) ds) (lexemes c.args.tokens.now) c.args.cursor _ _ _ _ (refuses (lexemes c.args.tokens.now) c.args.cursor c.in-Some-2.behind_keyword_3 _ (seen (unseen (opened y.3) (absent (word words.Elsif) (lexeme c.args.tokens.now.source) (lexemes c.args.tokens.now) c.loop-own.next c.in_ok-behind_keyword_2.ensures c.in_default.is)) (present (word words.Else) (lexeme c.args.tokens.now.source) (lexemes c.args.tokens.now) c.loop-own.next c.in_ok-behind_keyword_3.ensures c.in-Some-2.is).takes refl) (λ b. refl) (c.in_err-behind_statements.ensures.reads _ y.1)) c.from_residual-in_err-behind_statements.ensures.1
+if_statement-returns-in_err-behind_statements-clause-reads t c = λ ds hd. let y = c.loop-own.invariant.awaits ds hd in fault_found (parts.If (lexeme c.args.tokens.now.source c.args.first) ds) (lexemes c.args.tokens.now) c.args.cursor _ _ _ _ (refuses (lexemes c.args.tokens.now) c.args.cursor c.in-Some-2.behind_keyword_3 _ (seen (unseen (opened y.3) (absent (word words.Elsif) (lexeme c.args.tokens.now.source) (lexemes c.args.tokens.now) c.loop-own.next c.in_ok-behind_elsif.ensures c.in_default.is)) (present (word words.Else) (lexeme c.args.tokens.now.source) (lexemes c.args.tokens.now) c.loop-own.next c.in_ok-behind_keyword_3.ensures c.in-Some-2.is).takes refl) (λ b. refl) (c.in_err-behind_statements.ensures.reads _ y.1)) c.from_residual-in_err-behind_statements.ensures.1
 
 pub if_statement-returns-in_err-behind_statements-clause-grows : goal.if_statement-returns-in_err-behind_statements-clause-grows
 if_statement-returns-in_err-behind_statements-clause-grows t c = (grows_on c.loop-own.invariant.grows c.in_err-behind_statements.ensures.grows)
 
 pub if_statement-returns-in-Some-2-clause-reads : goal.if_statement-returns-in-Some-2-clause-reads
-if_statement-returns-in-Some-2-clause-reads t c = λ ds hd. let y = c.loop-own.invariant.awaits ds hd in let f2 = c.in_ok-behind_statements.ensures.reads _ y.1 in finds_last (lexemes c.args.tokens.now) c.args.cursor c.in_ok-behind_statements.behind_statements _ _ _ (done (seen (unseen (opened y.3) (absent (word words.Elsif) (lexeme c.args.tokens.now.source) (lexemes c.args.tokens.now) c.loop-own.next c.in_ok-behind_keyword_2.ensures c.in_default.is)) (present (word words.Else) (lexeme c.args.tokens.now.source) (lexemes c.args.tokens.now) c.loop-own.next c.in_ok-behind_keyword_3.ensures c.in-Some-2.is).takes refl) f2.reads (λ b. refl)) (omega (arith, c.loop-own.invariant.forward, (present (word words.Else) (lexeme c.args.tokens.now.source) (lexemes c.args.tokens.now) c.loop-own.next c.in_ok-behind_keyword_3.ensures c.in-Some-2.is).place, c.in_ok-behind_statements.ensures.goes.forward)) refl (c.end_if.ensures.reads _ _ f2.holds (holds_on c.in_ok-behind_statements.ensures.grows y.2))
+if_statement-returns-in-Some-2-clause-reads t c = λ ds hd. let y = c.loop-own.invariant.awaits ds hd in let f2 = c.in_ok-behind_statements.ensures.reads _ y.1 in finds_last (lexemes c.args.tokens.now) c.args.cursor c.in_ok-behind_statements.behind_statements _ _ _ (done (seen (unseen (opened y.3) (absent (word words.Elsif) (lexeme c.args.tokens.now.source) (lexemes c.args.tokens.now) c.loop-own.next c.in_ok-behind_elsif.ensures c.in_default.is)) (present (word words.Else) (lexeme c.args.tokens.now.source) (lexemes c.args.tokens.now) c.loop-own.next c.in_ok-behind_keyword_3.ensures c.in-Some-2.is).takes refl) f2.reads (λ b. refl)) (omega (arith, c.loop-own.invariant.forward, (present (word words.Else) (lexeme c.args.tokens.now.source) (lexemes c.args.tokens.now) c.loop-own.next c.in_ok-behind_keyword_3.ensures c.in-Some-2.is).place, c.in_ok-behind_statements.ensures.goes.forward)) refl (c.end_if.ensures.reads _ _ f2.holds (holds_on c.in_ok-behind_statements.ensures.grows y.2))
 
 pub if_statement-returns-in-Some-2-clause-goes : goal.if_statement-returns-in-Some-2-clause-goes
 if_statement-returns-in-Some-2-clause-goes t c = goes_on (lexemes c.args.tokens.now) c.args.cursor c.in_ok-behind_statements.behind_statements _ (omega (arith, c.loop-own.invariant.forward, (present (word words.Else) (lexeme c.args.tokens.now.source) (lexemes c.args.tokens.now) c.loop-own.next c.in_ok-behind_keyword_3.ensures c.in-Some-2.is).place, c.in_ok-behind_statements.ensures.goes.forward)) c.end_if.ensures.goes
@@ -247,7 +247,7 @@ pub if_statement-returns-in-Some-2-clause-grows : goal.if_statement-returns-in-S
 if_statement-returns-in-Some-2-clause-grows t c = (grows_on (grows_on c.loop-own.invariant.grows c.in_ok-behind_statements.ensures.grows) c.end_if.ensures.grows)
 
 pub if_statement-returns-clause-reads : goal.if_statement-returns-clause-reads
-if_statement-returns-clause-reads t c = λ ds hd. let y = c.loop-own.invariant.awaits ds hd in finds_last (lexemes c.args.tokens.now) c.args.cursor c.loop-own.next _ _ _ (unseen (unseen (opened y.3) (absent (word words.Elsif) (lexeme c.args.tokens.now.source) (lexemes c.args.tokens.now) c.loop-own.next c.in_ok-behind_keyword_2.ensures c.in_default.is)) (absent (word words.Else) (lexeme c.args.tokens.now.source) (lexemes c.args.tokens.now) c.loop-own.next c.in_ok-behind_keyword_3.ensures c.in_default-2.is)) (omega (arith, c.loop-own.invariant.forward)) refl (c.end_if-2.ensures.reads _ _ y.1 y.2)
+if_statement-returns-clause-reads t c = λ ds hd. let y = c.loop-own.invariant.awaits ds hd in finds_last (lexemes c.args.tokens.now) c.args.cursor c.loop-own.next _ _ _ (unseen (unseen (opened y.3) (absent (word words.Elsif) (lexeme c.args.tokens.now.source) (lexemes c.args.tokens.now) c.loop-own.next c.in_ok-behind_elsif.ensures c.in_default.is)) (absent (word words.Else) (lexeme c.args.tokens.now.source) (lexemes c.args.tokens.now) c.loop-own.next c.in_ok-behind_keyword_3.ensures c.in_default-2.is)) (omega (arith, c.loop-own.invariant.forward)) refl (c.end_if-2.ensures.reads _ _ y.1 y.2)
 
 pub if_statement-returns-clause-goes : goal.if_statement-returns-clause-goes
 if_statement-returns-clause-goes t c = goes_on (lexemes c.args.tokens.now) c.args.cursor c.loop-own.next _ (omega (arith, c.loop-own.invariant.forward)) c.end_if-2.ensures.goes

@@ -12,4 +12,4 @@ pub returns-then-is_empty : goal.returns-then-is_empty
 returns-then-is_empty c = are_read c.args.all.now c.loop-tokens.tokens-index c.loop-tokens-test.false (c.if-is_empty.ensures.0 refl) c.loop-tokens.invariant
 
 pub returns-else-is_empty : goal.returns-else-is_empty
-returns-else-is_empty c = are_refused c.args.all.now c.loop-tokens.tokens-index c.loop-tokens-test.false c.if-is_empty.ensures.1 c.into_vec.ensures c.loop-tokens.invariant
+returns-else-is_empty c = are_refused c.args.all.now c.loop-tokens.tokens-index c.loop-tokens-test.false c.if-is_empty.ensures.1 c.loop-tokens.invariant
