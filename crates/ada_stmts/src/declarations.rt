@@ -14,10 +14,6 @@ use ada_tree::{DeclKind, LocalForm, Mark, Naming, Reserved, Token, Tokens, Units
 use spark_base::{Items, NoMemory, Span};
 use std::alloc::Global;
 
-/// Each of several names that are declared together has the numbers of all their aspects. So that trees are linear in their
-/// source, more names than these with more aspects than these are want of memory.
-const MOST_SHARED: usize = 64;
-
 /// One name.
 pub fn only(alloc: Global, name: Token) -> Result<Items<Token>, NoMemory>
     ensures { IfOk result (λ names. names ≡ name ∷ []) }
@@ -71,9 +67,6 @@ pub fn closing(
     if let Some((_, behind_keyword)) = accept(tokens, cursor, Class::Reserved(Reserved::With))? {
         let behind_behind_with = behind_with(alloc, units, tokens, behind_keyword, &mut own)?;
         let (_, behind_end) = expect(tokens, behind_behind_with, Class::Mark(Mark::Semicolon))?;
-        if names.len() > MOST_SHARED && own.aspects.len() > MOST_SHARED {
-            return Err(Fault::NoMemory);
-        }
         declare_all(alloc, units, tokens, kind, names, own, into)?;
         return Ok(behind_end);
     }
@@ -409,7 +402,8 @@ fn literal(
         → Holds units.new into.new (phrases.declared DeclKind.EnumerationLiteral (lexeme tokens.now.source name) phrases.none ds)) }
 {
     let kind = DeclKind::EnumerationLiteral;
-    declare(alloc, units, tokens, kind, name, Children::new(alloc), into)
+    declare(alloc, units, tokens, kind, name, Children::new(alloc), into)?;
+    Ok(())
 }
 
 /// The literals of an enumeration type, behind the parenthesis.

@@ -23,9 +23,6 @@ data Order (u r v s : List Lexeme) : Type 0 where
   before : (t : Lexeme) (x : List Lexeme) → v ≡ u ++ t ∷ x → r ≡ t ∷ (x ++ s) → Order u r v s
   behind : (t : Lexeme) (x : List Lexeme) → u ≡ v ++ t ∷ x → s ≡ t ∷ (x ++ r) → Order u r v s
 
-heads : (t w : Lexeme) (a b : List Lexeme) → t ∷ a ≡ w ∷ b → t ≡ w
-heads t w a b e = cc
-
 tails : (t w : Lexeme) (a b : List Lexeme) → t ∷ a ≡ w ∷ b → a ≡ b
 tails t w a b e = cc
 

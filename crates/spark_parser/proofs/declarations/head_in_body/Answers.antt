@@ -24,7 +24,7 @@ pub returns-in_err-declare-clause-grows : goal.returns-in_err-declare-clause-gro
 returns-in_err-declare-clause-grows c = (grows_on c.in_ok-next.ensures.grows c.in_err-declare.ensures.grows)
 
 pub returns-in-Some-2-clause-reads : goal.returns-in-Some-2-clause-reads
-returns-in-Some-2-clause-reads c = λ os ds ho hd. let f1 = c.in_ok-next.ensures.reads _ ho in found (lexemes c.args.tokens.now) c.args.cursor c.in-Some-2.behind_end (c.in_ok-declare.ensures.builds _ _ f1.holds (holds_on c.in_ok-next.ensures.grows hd)) (omega (arith, (present (word words.With) (lexeme c.args.tokens.now.source) (lexemes c.args.tokens.now) c.args.cursor c.in_ok-behind_keyword.ensures c.in-Some.is).place, c.in_ok-next.ensures.goes.forward, (present (mark marks.Semicolon) (lexeme c.args.tokens.now.source) (lexemes c.args.tokens.now) c.in_ok-next.next c.in_ok-behind_end.ensures c.in-Some-2.is).place)) (omega (arith, (present (mark marks.Semicolon) (lexeme c.args.tokens.now.source) (lexemes c.args.tokens.now) c.in_ok-next.next c.in_ok-behind_end.ensures c.in-Some-2.is).place, (present (mark marks.Semicolon) (lexeme c.args.tokens.now.source) (lexemes c.args.tokens.now) c.in_ok-next.next c.in_ok-behind_end.ensures c.in-Some-2.is).within)) (seen (done (seen (start (parts.BehindHead regions.Body c.args.head (lexeme c.args.tokens.now.source c.args.name) os ds) _) (present (word words.With) (lexeme c.args.tokens.now.source) (lexemes c.args.tokens.now) c.args.cursor c.in_ok-behind_keyword.ensures c.in-Some.is).takes refl) f1.reads (λ b. refl)) (present (mark marks.Semicolon) (lexeme c.args.tokens.now.source) (lexemes c.args.tokens.now) c.in_ok-next.next c.in_ok-behind_end.ensures c.in-Some-2.is).takes refl)
+returns-in-Some-2-clause-reads c = λ os ds ho hd. let f1 = c.in_ok-next.ensures.reads _ ho in found (lexemes c.args.tokens.now) c.args.cursor c.in-Some-2.behind_end (c.in_ok-declare.ensures.builds _ _ f1.holds (holds_on f1.holds.ordered c.in_ok-next.ensures.grows hd)) (omega (arith, (present (word words.With) (lexeme c.args.tokens.now.source) (lexemes c.args.tokens.now) c.args.cursor c.in_ok-behind_keyword.ensures c.in-Some.is).place, c.in_ok-next.ensures.goes.forward, (present (mark marks.Semicolon) (lexeme c.args.tokens.now.source) (lexemes c.args.tokens.now) c.in_ok-next.next c.in_ok-behind_end.ensures c.in-Some-2.is).place)) (omega (arith, (present (mark marks.Semicolon) (lexeme c.args.tokens.now.source) (lexemes c.args.tokens.now) c.in_ok-next.next c.in_ok-behind_end.ensures c.in-Some-2.is).place, (present (mark marks.Semicolon) (lexeme c.args.tokens.now.source) (lexemes c.args.tokens.now) c.in_ok-next.next c.in_ok-behind_end.ensures c.in-Some-2.is).within)) (seen (done (seen (start (parts.BehindHead regions.Body c.args.head (lexeme c.args.tokens.now.source c.args.name) os ds) _) (present (word words.With) (lexeme c.args.tokens.now.source) (lexemes c.args.tokens.now) c.args.cursor c.in_ok-behind_keyword.ensures c.in-Some.is).takes refl) f1.reads (λ b. refl)) (present (mark marks.Semicolon) (lexeme c.args.tokens.now.source) (lexemes c.args.tokens.now) c.in_ok-next.next c.in_ok-behind_end.ensures c.in-Some-2.is).takes refl)
 
 pub returns-in-Some-2-clause-goes : goal.returns-in-Some-2-clause-goes
 returns-in-Some-2-clause-goes c = record { forward = omega (arith, (present (word words.With) (lexeme c.args.tokens.now.source) (lexemes c.args.tokens.now) c.args.cursor c.in_ok-behind_keyword.ensures c.in-Some.is).place, c.in_ok-next.ensures.goes.forward, (present (mark marks.Semicolon) (lexeme c.args.tokens.now.source) (lexemes c.args.tokens.now) c.in_ok-next.next c.in_ok-behind_end.ensures c.in-Some-2.is).place); ends = (omega (arith, (present (mark marks.Semicolon) (lexeme c.args.tokens.now.source) (lexemes c.args.tokens.now) c.in_ok-next.next c.in_ok-behind_end.ensures c.in-Some-2.is).place, (present (mark marks.Semicolon) (lexeme c.args.tokens.now.source) (lexemes c.args.tokens.now) c.in_ok-next.next c.in_ok-behind_end.ensures c.in-Some-2.is).within)) }
@@ -36,7 +36,7 @@ pub returns-in_err-behind_behind-clause-reads : goal.returns-in_err-behind_behin
 returns-in_err-behind_behind-clause-reads c = λ os ds ho hd. let f1 = c.in_ok-next.ensures.reads _ ho in fault_found (parts.BehindHead regions.Body c.args.head (lexeme c.args.tokens.now.source c.args.name) os ds) (lexemes c.args.tokens.now) c.args.cursor _ _ _ _ (misses_here (lexemes c.args.tokens.now) c.args.cursor c.in_ok-next.next (word words.Is) _ c.in_ok-next.ensures.goes.ends (unseen (done (seen (start (parts.BehindHead regions.Body c.args.head (lexeme c.args.tokens.now.source c.args.name) os ds) _) (present (word words.With) (lexeme c.args.tokens.now.source) (lexemes c.args.tokens.now) c.args.cursor c.in_ok-behind_keyword.ensures c.in-Some.is).takes refl) f1.reads (λ b. refl)) (absent (mark marks.Semicolon) (lexeme c.args.tokens.now.source) (lexemes c.args.tokens.now) c.in_ok-next.next c.in_ok-behind_end.ensures c.in_default-2.is)) refl (λ t. refl) c.in_err-behind_behind.ensures) c.from_residual-in_err-behind_behind.ensures.1
 
 pub returns-in-Some-clause-reads : goal.returns-in-Some-clause-reads
-returns-in-Some-clause-reads c = λ os ds ho hd. let f1 = c.in_ok-next.ensures.reads _ ho in finds_last (lexemes c.args.tokens.now) c.args.cursor c.in_ok-behind_behind.behind_behind _ _ _ (seen (unseen (done (seen (start (parts.BehindHead regions.Body c.args.head (lexeme c.args.tokens.now.source c.args.name) os ds) _) (present (word words.With) (lexeme c.args.tokens.now.source) (lexemes c.args.tokens.now) c.args.cursor c.in_ok-behind_keyword.ensures c.in-Some.is).takes refl) f1.reads (λ b. refl)) (absent (mark marks.Semicolon) (lexeme c.args.tokens.now.source) (lexemes c.args.tokens.now) c.in_ok-next.next c.in_ok-behind_end.ensures c.in_default-2.is)) c.in_ok-behind_behind.ensures.takes refl) (omega (arith, (present (word words.With) (lexeme c.args.tokens.now.source) (lexemes c.args.tokens.now) c.args.cursor c.in_ok-behind_keyword.ensures c.in-Some.is).place, c.in_ok-next.ensures.goes.forward, c.in_ok-behind_behind.ensures.place)) refl (c.subprogram_body.ensures.reads _ _ f1.holds (holds_on c.in_ok-next.ensures.grows hd))
+returns-in-Some-clause-reads c = λ os ds ho hd. let f1 = c.in_ok-next.ensures.reads _ ho in finds_last (lexemes c.args.tokens.now) c.args.cursor c.in_ok-behind_behind.behind_behind _ _ _ (seen (unseen (done (seen (start (parts.BehindHead regions.Body c.args.head (lexeme c.args.tokens.now.source c.args.name) os ds) _) (present (word words.With) (lexeme c.args.tokens.now.source) (lexemes c.args.tokens.now) c.args.cursor c.in_ok-behind_keyword.ensures c.in-Some.is).takes refl) f1.reads (λ b. refl)) (absent (mark marks.Semicolon) (lexeme c.args.tokens.now.source) (lexemes c.args.tokens.now) c.in_ok-next.next c.in_ok-behind_end.ensures c.in_default-2.is)) c.in_ok-behind_behind.ensures.takes refl) (omega (arith, (present (word words.With) (lexeme c.args.tokens.now.source) (lexemes c.args.tokens.now) c.args.cursor c.in_ok-behind_keyword.ensures c.in-Some.is).place, c.in_ok-next.ensures.goes.forward, c.in_ok-behind_behind.ensures.place)) refl (c.subprogram_body.ensures.reads _ _ f1.holds (holds_on f1.holds.ordered c.in_ok-next.ensures.grows hd))
 
 pub returns-in-Some-clause-goes : goal.returns-in-Some-clause-goes
 returns-in-Some-clause-goes c = goes_on (lexemes c.args.tokens.now) c.args.cursor c.in_ok-behind_behind.behind_behind _ (omega (arith, (present (word words.With) (lexeme c.args.tokens.now.source) (lexemes c.args.tokens.now) c.args.cursor c.in_ok-behind_keyword.ensures c.in-Some.is).place, c.in_ok-next.ensures.goes.forward, c.in_ok-behind_behind.ensures.place)) c.subprogram_body.ensures.goes
