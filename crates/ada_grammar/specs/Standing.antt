@@ -17,7 +17,7 @@ use Rattle.ada_grammar.specs.declared.tokens.Fault.{Fault}
 use Rattle.ada_grammar.specs.Lexemes.{Lexeme}
 use Rattle.ada_grammar.specs.Phrases.{OfStmt, OfDecl, OfAspect, OfUnit, Head, Tree, Root, with_all, Children, with_expr, Phrase, gives, blank}
 use Rattle.ada_grammar.specs.Built.{trees, tree_at, written, Extends}
-use Rattle.ada_grammar.specs.Grammar.{Part}
+use Rattle.ada_grammar.specs.Parts.{Part}
 use Rattle.ada_grammar.specs.Reading.{point, Reads, Fails}
 
 -- the number of a node, of each type of node

@@ -1,5 +1,5 @@
 use Rattle.ada_grammar.specs.Lexemes.{lexemes}
-use Rattle.ada_grammar.specs.Grammar as parts
+use Rattle.ada_grammar.specs.Parts as parts
 use Rattle.ada_grammar.proofs.Standing.{exprs_grow, holds_extended}
 use Rattle.ada_exprs.proofs.parts.expression.Goals as goal
 

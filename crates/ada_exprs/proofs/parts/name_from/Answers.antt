@@ -1,7 +1,7 @@
 use Rattle.std.proofs.Common.{true}
 use Rattle.ada_grammar.specs.Lexemes.{lexeme, lexemes}
 use Rattle.ada_grammar.specs.Phrases as phrases
-use Rattle.ada_grammar.specs.Grammar as parts
+use Rattle.ada_grammar.specs.Parts as parts
 use Rattle.ada_grammar.proofs.Standing.{exprs_grow, holds_extended}
 use Rattle.ada_exprs.proofs.parts.name_from.Goals as goal
 
