@@ -8,7 +8,7 @@ use ada_tree::Tokens;
 use spark_base::{Items, NoMemory};
 use spark_messages::{Code, Message, PhaseFault};
 use spark_parser::{ParseFault, parse};
-use std::alloc::Global;
+use std::alloc::{AllocError, Global};
 use std::test::Fail;
 
 /// What is answered of some files.
@@ -148,5 +148,31 @@ fn proper_fronts_are_refused(rt: HostRuntime) -> Result<(), Fail> {
     }
     let wanted = [behind_declaration, behind_declaration + 1, source.len() - 1];
     assert_eq!(rt; read.as_slice(), wanted.as_slice());
+    Ok(())
+}
+
+/// A text, so often, and one behind these.
+fn push_repeated(
+    source: &mut Vec<u8>,
+    text: &str,
+    times: usize,
+    back: &str,
+) -> Result<(), AllocError> {
+    for _ in 0..times {
+        source.extend_from_slice(text.as_bytes())?;
+    }
+    source.extend_from_slice(back.as_bytes())
+}
+
+#[test]
+fn many_names_share_many_aspects(rt: HostRuntime) -> Result<(), Fail> {
+    let alloc = rt.alloc();
+    let mut source = Vec::from_slice(alloc, b"package P is A")?;
+    push_repeated(&mut source, ", A", 4_000, " : T with B")?;
+    push_repeated(&mut source, ", B", 4_000, "; end;")?;
+    assert_eq!(rt;
+        answer_of(alloc, source.as_slice())?,
+        Answer::Read { units: 1 }
+    );
     Ok(())
 }

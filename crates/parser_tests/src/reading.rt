@@ -4,7 +4,7 @@ use ada_exprs::{read_drange, read_expr, read_name, read_simple};
 use ada_lexer::lex;
 use ada_stmts::{read_local_decls, read_stmts};
 use ada_tree::{ExprKind, Tokens, Units};
-use spark_base::{Bytes, FileNo, Items, Name};
+use spark_base::{Bytes, FileNo, Name};
 use spark_messages::{Code, PhaseFault};
 use std::alloc::{AllocError, Global};
 use std::fmt::Debug;
@@ -29,54 +29,33 @@ pub enum Answer {
     Refused(Code, u32),
 }
 
-fn no_units(alloc: Global) -> Units {
-    Units {
-        units: Items::new(alloc),
-        decls: Items::new(alloc),
-        stmts: Items::new(alloc),
-        exprs: Items::new(alloc),
-        aspects: Items::new(alloc),
-    }
-}
-
 pub fn tokens_of(alloc: Global, source: &[u8]) -> Result<Tokens, PhaseFault> {
     let bytes = Bytes::from_slice(alloc, source)?;
     lex(alloc, FileNo(0), bytes)
 }
 
-fn read(
-    alloc: Global,
-    part: Part,
-    units: &mut Units,
-    tokens: &Tokens,
-) -> Result<usize, PhaseFault> {
+/// The nodes of a part, and the place behind it.
+fn read(alloc: Global, part: Part, text: &str) -> Result<(Units, usize), PhaseFault> {
+    let tokens = tokens_of(alloc, text.as_bytes())?;
+    let mut units = Units::new(alloc);
     let next = match part {
-        Part::Expression => read_expr(alloc, units, tokens, 0, 0)?.1,
-        Part::Simple => read_simple(alloc, units, tokens, 0, 0)?.1,
-        Part::Name => read_name(alloc, units, tokens, 0, 0)?.1,
-        Part::Range => read_drange(alloc, units, tokens, 0, 0)?.1,
-        Part::Aspects => read_aspects(alloc, units, tokens, 0)?.1,
-        Part::Statements => read_stmts(alloc, units, tokens, 0)?.1,
-        Part::Declarations => read_local_decls(alloc, units, tokens, 0)?.1,
+        Part::Expression => read_expr(alloc, &mut units, &tokens, 0, 0)?.1,
+        Part::Simple => read_simple(alloc, &mut units, &tokens, 0, 0)?.1,
+        Part::Name => read_name(alloc, &mut units, &tokens, 0, 0)?.1,
+        Part::Range => read_drange(alloc, &mut units, &tokens, 0, 0)?.1,
+        Part::Aspects => read_aspects(alloc, &mut units, &tokens, 0)?.1,
+        Part::Statements => read_stmts(alloc, &mut units, &tokens, 0)?.1,
+        Part::Declarations => read_local_decls(alloc, &mut units, &tokens, 0)?.1,
     };
-    Ok(next)
+    Ok((units, next))
 }
 
 pub fn answer_of(alloc: Global, part: Part, text: &str) -> Result<Answer, PhaseFault> {
-    let tokens = tokens_of(alloc, text.as_bytes())?;
-    match read(alloc, part, &mut no_units(alloc), &tokens) {
-        Ok(next) => Ok(Answer::Read { next }),
+    match read(alloc, part, text) {
+        Ok((_, next)) => Ok(Answer::Read { next }),
         Err(PhaseFault::Refused(message)) => Ok(Answer::Refused(message.code, message.place.col)),
         Err(PhaseFault::NoMemory) => Err(PhaseFault::NoMemory),
     }
-}
-
-/// The nodes of a text.
-pub fn units_of(alloc: Global, part: Part, text: &str) -> Result<Units, PhaseFault> {
-    let tokens = tokens_of(alloc, text.as_bytes())?;
-    let mut units = no_units(alloc);
-    read(alloc, part, &mut units, &tokens)?;
-    Ok(units)
 }
 
 /// Adds the first word of what is written of a kind.
@@ -98,7 +77,7 @@ fn push_kind<K: Debug>(alloc: Global, shown: &mut String, kind: &K) -> Result<()
 
 /// The kinds of the expressions of a text, by their first words, each behind its children.
 pub fn expressions_of(alloc: Global, part: Part, text: &str) -> Result<String, Fail> {
-    let units = units_of(alloc, part, text)?;
+    let (units, _) = read(alloc, part, text)?;
     let mut shown = String::new(alloc);
     for node in units.exprs.as_slice() {
         push_word(alloc, &mut shown, node.kind)?;
@@ -108,7 +87,7 @@ pub fn expressions_of(alloc: Global, part: Part, text: &str) -> Result<String, F
 
 /// The kinds of the states of a text, and those of its aspects, each behind its children.
 pub fn aspects_of(alloc: Global, text: &str) -> Result<String, Fail> {
-    let units = units_of(alloc, Part::Aspects, text)?;
+    let (units, _) = read(alloc, Part::Aspects, text)?;
     let mut shown = declarations_in(alloc, &units)?;
     for node in units.aspects.as_slice() {
         push_kind(alloc, &mut shown, &node.kind)?;
@@ -118,7 +97,7 @@ pub fn aspects_of(alloc: Global, text: &str) -> Result<String, Fail> {
 
 /// The kinds of the statements of a text, each behind its children.
 pub fn statements_of(alloc: Global, text: &str) -> Result<String, Fail> {
-    let units = units_of(alloc, Part::Statements, text)?;
+    let (units, _) = read(alloc, Part::Statements, text)?;
     let mut shown = String::new(alloc);
     for node in units.stmts.as_slice() {
         push_kind(alloc, &mut shown, &node.kind)?;
@@ -136,7 +115,7 @@ fn declarations_in(alloc: Global, units: &Units) -> Result<String, AllocError> {
 
 /// The kinds of the declarations of a text, each behind its children.
 pub fn declarations_of(alloc: Global, text: &str) -> Result<String, Fail> {
-    let units = units_of(alloc, Part::Declarations, text)?;
+    let (units, _) = read(alloc, Part::Declarations, text)?;
     Ok(declarations_in(alloc, &units)?)
 }
 
@@ -150,7 +129,7 @@ fn push_name(shown: &mut String, name: &Option<Name>) -> Result<(), Fail> {
 
 /// The names of the declarations and the aspects of a text.
 pub fn names_of(alloc: Global, part: Part, text: &str) -> Result<String, Fail> {
-    let units = units_of(alloc, part, text)?;
+    let (units, _) = read(alloc, part, text)?;
     let mut shown = String::new(alloc);
     for node in units.decls.as_slice() {
         push_name(&mut shown, &node.name)?;
