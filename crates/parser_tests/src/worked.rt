@@ -1,4 +1,4 @@
-// Sources of the subset, each of which some check of the analysis accepts or has a message for: all are in the grammar.
+// Worked examples, in the very bytes in which they are written.
 
 pub const COUNTER: &str = "package Counter is
    Count : Integer := 0;
@@ -688,8 +688,47 @@ package body P is
 end P;
 ";
 
-/// All of these sources.
-pub const ALL: [&str; 40] = [
+pub const TOO_MANY_PARENTHESES: &str = "package P is
+   N : constant := (((((((((((((((((((((((((((((((((((((((((((((((((((((((((((((((((((((((((((((((((((((((((((((((((((((((((((((((((((((((((((((((((1)))))))))))))))))))))))))))))))))))))))))))))))))))))))))))))))))))))))))))))))))))))))))))))))))))))))))))))))))))))))))))))))));
+end P;
+";
+
+pub const NUMBER_PAST_THE_WIDEST: &str = "package P is
+   N : constant := 340282366920938463463374607431768211456;
+end P;
+";
+
+pub const BODY_WITHOUT_STATEMENTS: &str = "procedure Main is
+begin";
+
+pub const BYTE_200_IN_A_COMMENT: &[u8] = b"-- \xC8
+package Counter is
+   Count : Integer := 0;
+   procedure Inc with Global => (In_Out => Count);
+end Counter;
+package body Counter is
+   procedure Inc is
+   begin
+      Count := Count + 1;
+   end Inc;
+end Counter;
+";
+
+pub const BYTE_200_OUTSIDE: &[u8] = b"  \xC8
+package Counter is
+   Count : Integer := 0;
+   procedure Inc with Global => (In_Out => Count);
+end Counter;
+package body Counter is
+   procedure Inc is
+   begin
+      Count := Count + 1;
+   end Inc;
+end Counter;
+";
+
+/// Those that are in the grammar, each of which some check of the analysis accepts or has a message for.
+pub const READ: [&str; 40] = [
     COUNTER,
     INPUT_THAT_IS_WRITTEN,
     OUTPUT_LEFT_ON_A_PATH,
