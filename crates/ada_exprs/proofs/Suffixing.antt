@@ -14,8 +14,9 @@ use Rattle.ada_grammar.specs.Lexemes.{Lexeme}
 use Rattle.ada_grammar.specs.Phrases as phrases
 use Rattle.ada_grammar.specs.Phrases.{Phrase, Tree, named}
 use Rattle.ada_grammar.specs.Built.{tree_at, trees_at}
-use Rattle.ada_grammar.specs.Grammar.{Part, Body, Suffixes, MayOpen, BehindTick, ArgumentsFrom, Gives, Take, Call, Rest, Or, mark}
-use Rattle.ada_grammar.specs.Reading.{Point, Awaits, point, Fails}
+use Rattle.ada_grammar.specs.Parts.{Part, Body, Suffixes, MayOpen, BehindTick, ArgumentsFrom, Gives, Take, Call, Rest, Or, mark}
+use Rattle.ada_grammar.specs.Fronts.{Point}
+use Rattle.ada_grammar.specs.Reading.{Awaits, point, Fails}
 use Rattle.ada_grammar.specs.Taking.{NotFirst, Takes}
 use Rattle.ada_grammar.proofs.Steps.{start, opened, seen, unseen, tail, good, ends_in}
 use Rattle.ada_grammar.proofs.Answering.{fails, fails_last}

@@ -1,8 +1,8 @@
 ghost use Rattle.std.specs.Prelude.{◌≡◌, ◌≤◌, List, length};
 ghost use Rattle.ada_grammar.specs.Answer.{IsAnswer};
 ghost use Rattle.ada_grammar.specs.Built.{Extends, trees};
-ghost use Rattle.ada_grammar.specs.Grammar as parts;
-ghost use Rattle.ada_grammar.specs.Grammar.{Part};
+ghost use Rattle.ada_grammar.specs.Parts as parts;
+ghost use Rattle.ada_grammar.specs.Parts.{Part};
 ghost use Rattle.ada_grammar.specs.Lexemes.{lexemes};
 ghost use Rattle.ada_grammar.specs.Limits.{before_range, outermost};
 ghost use Rattle.ada_grammar.specs.Phrases.{Tree};

@@ -9,8 +9,9 @@ use Rattle.ada_grammar.specs.declared.tokens.Cursor.{Cursor}
 use Rattle.ada_grammar.specs.declared.tokens.Fault.{Fault}
 use Rattle.ada_grammar.specs.Lexemes.{Lexeme}
 use Rattle.ada_grammar.specs.Phrases.{Children, gives}
-use Rattle.ada_grammar.specs.Grammar.{Part, Gives, Rest}
-use Rattle.ada_grammar.specs.Reading.{Point, point, Awaits, Fails}
+use Rattle.ada_grammar.specs.Parts.{Part, Gives, Rest}
+use Rattle.ada_grammar.specs.Fronts.{Point}
+use Rattle.ada_grammar.specs.Reading.{point, Awaits, Fails}
 use Rattle.ada_grammar.specs.Standing.{Finds, Forth, Found, Holds, Skips}
 use Rattle.ada_grammar.specs.Taking.{Looks, NotFirst, IsTaken}
 use Rattle.ada_grammar.proofs.Steps.{ends_in, tail}

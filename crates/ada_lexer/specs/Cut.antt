@@ -15,6 +15,7 @@ use Rattle.ada_tree.specs.declared.token.TokenKind.{TokenKind}
 use Rattle.ada_tree.specs.declared.token.TokenKind.TheVariants as kinds
 use Rattle.spark_messages.specs.declared.messages.Code.{Code}
 use Rattle.spark_messages.specs.declared.messages.Code.TheVariants.{L01, L02, L03, L04, X01}
+use Rattle.ada_lexer.specs.declared.lexing.TheConstants.{LIMIT}
 use Rattle.ada_lexer.specs.declared.piece.Fault.{Fault}
 use Rattle.ada_lexer.specs.declared.piece.Piece.{Piece}
 use Rattle.ada_lexer.specs.declared.refusal.Refusal.{Refusal}
@@ -179,5 +180,5 @@ cut_from file source at zero ticked (b ∷ bs) = elim (piece_at ticked (b ∷ bs
 -- the tokens of a source, or its first refusal
 unfoldable pub lexed : FileNo → List ℕ → Result (List Token) Refusal
 lexed file source =
-    if nat_lt 4194304 (length source) then Err (record { code = X01; place = record { line = 1; col = 1 } })
+    if nat_lt LIMIT (length source) then Err (record { code = X01; place = record { line = 1; col = 1 } })
     else cut_from file source 0 0 false source

@@ -1,9 +1,11 @@
-ghost use Rattle.std.specs.Prelude.{◌≡◌, ◌↔◌, ◌⊎◌, ◌*◌, ◌^◌, ℕ, List, Bool, true, IfOk};
+ghost use Rattle.std.specs.Prelude.{◌≡◌, ◌≤◌, ◌↔◌, ◌⊎◌, ◌*◌, ◌^◌, ℕ, List, Bool, true, length, IfOk};
 ghost use Rattle.ada_lexer.specs.Classes.{base_of};
-ghost use Rattle.ada_lexer.specs.Laws.{InOrder, IsBased, IsDecimal, IsLongest, NonePasses};
+ghost use Rattle.ada_lexer.specs.Laws.{InOrder, IsBased, IsCut, IsDecimal, IsLongest, NonePasses};
 ghost use Rattle.ada_lexer.specs.Cut.{lexed, number_value, value_from};
 ghost use Rattle.ada_lexer.specs.Pieces.{longest, number};
 ghost use Rattle.spark_base.specs.declared.numbers.FileNo.{FileNo};
+ghost use Rattle.ada_tree.specs.declared.token.Token.{Token};
+ghost use Rattle.ada_lexer.specs.declared.lexing.TheConstants.{LIMIT};
 
 /// What `longest` gives is the longest front that passes, and none only where no front passes.
 pub fn longest_fronts()
@@ -30,8 +32,15 @@ pub fn number_values()
         ≡ value_from base 0 r.is_rest.digits * base ^ value_from 10 0 r.is_rest.tail }
 {}
 
-/// The tokens of a source have bytes, stand in order within it and do not overlap, and the span of
-/// each is that of its bytes.
+/// A source has tokens exactly where it is within the limit and is pieces joined, each the longest
+/// that may stand where it begins; and its tokens are those of the pieces.
+pub fn pieces_joined()
+    ensures { (file : FileNo) (source : List ℕ) (tokens : List Token) →
+        (lexed file source ≡ Ok tokens) ↔ ((length source ≤ LIMIT) × IsCut file source tokens) }
+{}
+
+/// It follows that tokens have bytes, stand in order within their source and do not overlap, and
+/// that the span of each is that of its bytes.
 pub fn tokens_in_order()
     ensures { (file : FileNo) (source : List ℕ) →
         IfOk (lexed file source) (InOrder file source 0) }

@@ -18,7 +18,8 @@ IsRoot BodyKind.Procedure = ⊥
 IsRoot BodyKind.Function = ⊥
 IsRoot BodyKind.Entry = ⊥
 
--- a leaf that a body of this kind may make fresh: a library leaf in an elaboration alone, and no formal of mode in or in out
+-- a leaf that the code of a body of this kind may make fresh: a library leaf in an elaboration alone, and no formal, since a call
+-- begins with its out formals unassigned
 abbrev pub MayClear : BodyKind → Option Home → Type 0
 MayClear kind None = ⊥
 MayClear kind (Some (Home.Package k)) = kind ≡ BodyKind.Elaboration

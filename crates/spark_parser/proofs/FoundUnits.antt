@@ -7,7 +7,7 @@ use Rattle.ada_grammar.specs.declared.tokens.Cursor.{Cursor}
 use Rattle.ada_grammar.specs.declared.tokens.Fault.{Fault}
 use Rattle.ada_grammar.specs.Lexemes.{Lexeme}
 use Rattle.ada_grammar.specs.Phrases.{Children, Tree, gives, with_unit}
-use Rattle.ada_grammar.specs.Grammar.{Part, Gives, Rest}
+use Rattle.ada_grammar.specs.Parts.{Part, Gives, Rest}
 use Rattle.ada_grammar.specs.Reading.{Awaits, Fails, point}
 use Rattle.ada_grammar.specs.Standing.{Stands, UnitRef}
 use Rattle.ada_grammar.proofs.Answering.{refuses_last}

@@ -8,8 +8,9 @@ use Rattle.ada_grammar.specs.declared.tokens.Nesting.{Nesting}
 use Rattle.ada_grammar.specs.Lexemes.{Lexeme, lexemes, sort}
 use Rattle.ada_grammar.specs.Limits.{outermost, step, walk, walk_on}
 use Rattle.ada_grammar.specs.Phrases.{Phrase, Tree}
-use Rattle.ada_grammar.specs.Grammar.{File, Spells}
-use Rattle.ada_grammar.specs.Reading.{Bars, Viable}
+use Rattle.ada_grammar.specs.Parts.{File}
+use Rattle.ada_grammar.specs.Spelling.{Spells}
+use Rattle.ada_grammar.specs.Fronts.{Bars, Viable}
 use Rattle.ada_grammar.specs.Answer.{IsLimit, Longest}
 use Rattle.ada_grammar.specs.Refusals.{limit_message, syntax_message}
 use Rattle.ada_grammar.proofs.Ahead.{lexemes_length}

@@ -12,7 +12,8 @@ use Rattle.ada_grammar.specs.declared.tokens.Nesting.{Nesting}
 use Rattle.ada_grammar.specs.Lexemes.{Lexeme, lexemes}
 use Rattle.ada_grammar.specs.Limits.{outermost, walk}
 use Rattle.ada_grammar.specs.Phrases.{Phrase, Tree, gives}
-use Rattle.ada_grammar.specs.Grammar.{File, Spells}
+use Rattle.ada_grammar.specs.Parts.{File}
+use Rattle.ada_grammar.specs.Spelling.{Spells}
 use Rattle.ada_grammar.specs.Answer.{IsFault, IsPhrase, Longest, ForSyntax, ForLimit}
 use Rattle.ada_grammar.specs.Refusals.{Tells, syntax_message}
 use Rattle.ada_grammar.specs.Standing.{Stands, nowhere}

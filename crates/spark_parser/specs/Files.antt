@@ -9,7 +9,7 @@ use Rattle.ada_grammar.specs.declared.tokens.Cursor.{Cursor}
 use Rattle.ada_grammar.specs.declared.tokens.Fault.{Fault}
 use Rattle.ada_grammar.specs.Lexemes.{Lexeme}
 use Rattle.ada_grammar.specs.Phrases.{Tree, Children, gives, with_unit}
-use Rattle.ada_grammar.specs.Grammar.{Part, File, InFile, Rest}
+use Rattle.ada_grammar.specs.Parts.{Part, File, InFile, Rest}
 use Rattle.ada_grammar.specs.Reading.{point, Awaits, Reads, Fails}
 use Rattle.ada_grammar.specs.Standing.{UnitRef, Holds, Stands}
 use Rattle.spark_parser.specs.declared.files.Progress.{Progress}

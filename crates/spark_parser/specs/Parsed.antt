@@ -7,7 +7,8 @@ use Rattle.ada_grammar.specs.declared.tokens.Nesting.{Nesting}
 use Rattle.ada_grammar.specs.Lexemes.{Lexeme, lexemes}
 use Rattle.ada_grammar.specs.Limits.{outermost, walk}
 use Rattle.ada_grammar.specs.Phrases.{Phrase, Tree}
-use Rattle.ada_grammar.specs.Grammar.{File, Spells}
+use Rattle.ada_grammar.specs.Parts.{File}
+use Rattle.ada_grammar.specs.Spelling.{Spells}
 use Rattle.ada_grammar.specs.Answer.{IsLimit, Longest}
 use Rattle.ada_grammar.specs.Refusals.{syntax_message}
 use Rattle.ada_grammar.specs.Standing.{Ref, UnitRef, Stands}

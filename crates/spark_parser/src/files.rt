@@ -1,7 +1,7 @@
 //! The readers of a file: its pragmas, contexts and units.
 ghost use Rattle.std.specs.Prelude.{◌≤◌, length, IfOk};
-ghost use Rattle.ada_grammar.specs.Grammar as parts;
-ghost use Rattle.ada_grammar.specs.Grammar.{Rest};
+ghost use Rattle.ada_grammar.specs.Parts as parts;
+ghost use Rattle.ada_grammar.specs.Parts.{Rest};
 ghost use Rattle.ada_grammar.specs.Lexemes.{Lexeme, lexeme, lexemes};
 ghost use Rattle.ada_grammar.specs.Phrases as phrases;
 ghost use Rattle.ada_grammar.specs.Reading.{Awaits, point};

@@ -1,6 +1,6 @@
 //! The readers of packages, their bodies and main subprograms.
 ghost use Rattle.std.specs.Prelude.{◌≡◌, ◌≤◌, ◌+◌, length, IfOk};
-ghost use Rattle.ada_grammar.specs.Grammar as parts;
+ghost use Rattle.ada_grammar.specs.Parts as parts;
 ghost use Rattle.ada_grammar.specs.Lexemes.{lexeme, lexemes};
 ghost use Rattle.ada_grammar.specs.Phrases as phrases;
 ghost use Rattle.ada_grammar.specs.Standing.{Forth, Holds, Widens};

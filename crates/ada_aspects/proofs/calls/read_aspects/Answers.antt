@@ -1,7 +1,7 @@
 use Rattle.std.proofs.Common.{subst}
 use Rattle.ada_grammar.specs.declared.tokens.Nesting.{Nesting}
 use Rattle.ada_grammar.specs.Answer.{HasAspects, IsFault}
-use Rattle.ada_grammar.specs.Grammar as parts
+use Rattle.ada_grammar.specs.Parts as parts
 use Rattle.ada_grammar.specs.Phrases as phrases
 use Rattle.ada_grammar.proofs.Telling.{has_aspects}
 use Rattle.ada_aspects.proofs.calls.read_aspects.Goals as goal

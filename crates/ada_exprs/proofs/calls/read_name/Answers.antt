@@ -2,7 +2,7 @@ use Rattle.std.proofs.Common.{subst}
 use Rattle.ada_grammar.specs.declared.tokens.Nesting.{Nesting}
 use Rattle.ada_grammar.specs.Answer.{IsAnswer}
 use Rattle.ada_grammar.specs.Built.{trees}
-use Rattle.ada_grammar.specs.Grammar as parts
+use Rattle.ada_grammar.specs.Parts as parts
 use Rattle.ada_exprs.proofs.calls.read_name.Goals as goal
 
 pub returns-clause-reads : goal.returns-clause-reads

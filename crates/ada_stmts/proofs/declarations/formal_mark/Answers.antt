@@ -1,7 +1,7 @@
 use Rattle.std.proofs.Common.{refl, map, arith}
 use Rattle.ada_grammar.specs.Lexemes.{lexeme, lexemes}
-use Rattle.ada_grammar.specs.Grammar as parts
-use Rattle.ada_grammar.specs.Grammar.{mark, word, Gives, Call, Rest}
+use Rattle.ada_grammar.specs.Parts as parts
+use Rattle.ada_grammar.specs.Parts.{mark, word, Gives, Call, Rest}
 use Rattle.ada_grammar.proofs.Steps.{start, done}
 use Rattle.ada_grammar.proofs.Answering.{refuses}
 use Rattle.ada_grammar.proofs.Joining.{fault_found, found}

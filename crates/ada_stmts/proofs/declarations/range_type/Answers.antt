@@ -3,8 +3,8 @@ use Rattle.ada_tree.specs.declared.token.Mark.TheVariants as marks
 use Rattle.ada_tree.specs.declared.declarations.DeclKind.TheVariants as decls
 use Rattle.ada_grammar.specs.Lexemes.{lexeme, lexemes}
 use Rattle.ada_grammar.specs.Phrases as phrases
-use Rattle.ada_grammar.specs.Grammar as parts
-use Rattle.ada_grammar.specs.Grammar.{mark, word, Gives, Call, Rest}
+use Rattle.ada_grammar.specs.Parts as parts
+use Rattle.ada_grammar.specs.Parts.{mark, word, Gives, Call, Rest}
 use Rattle.ada_grammar.proofs.Steps.{start, seen, done}
 use Rattle.ada_grammar.proofs.Answering.{misses_here, refuses}
 use Rattle.ada_grammar.proofs.Joining.{rest_as, fault_found, finds_last, goes_on}

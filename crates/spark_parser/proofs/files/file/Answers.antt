@@ -2,8 +2,8 @@ use Rattle.std.proofs.Common.{refl, arith}
 use Rattle.ada_grammar.specs.declared.tokens.Class.TheVariants as classes
 use Rattle.ada_grammar.specs.Lexemes.{lexeme, lexemes}
 use Rattle.ada_grammar.specs.Phrases as phrases
-use Rattle.ada_grammar.specs.Grammar as parts
-use Rattle.ada_grammar.specs.Grammar.{word}
+use Rattle.ada_grammar.specs.Parts as parts
+use Rattle.ada_grammar.specs.Parts.{word}
 use Rattle.ada_grammar.proofs.Steps.{start, opened, seen, unseen, decided, declined}
 use Rattle.ada_grammar.proofs.Answering.{passes_here}
 use Rattle.ada_grammar.proofs.Joining.{absent, present}
