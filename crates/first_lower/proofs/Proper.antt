@@ -59,8 +59,8 @@ module _ (s : Source) (keys : List (List ℕ)) (nodes : Nodes) (r : Roots) (p : 
       (rw (a.exprs, a.stmts, roots.spec_code) (variables_proper keys p spec scalar (writes spec refl) fresh 0 s.spec.variables (omega arith)))
       (rw (a.exprs, a.stmts, roots.body_code) tt)
       (
-        rw (a.exprs, a.stmts, procedure_code s keys nodes r p a roots same nested)
-        (statements_proper keys p procedure scalar (writes procedure refl) nested.statements (statements_known keys nested.statements s.body.procedure.lines nested.written known))
+      rw (a.exprs, a.stmts, procedure_code s keys nodes r p a roots same nested)
+      (statements_proper keys p procedure scalar (writes procedure refl) nested.statements (statements_known keys nested.statements s.body.procedure.lines nested.written known))
       )
 
   pub proper : AreNested s.body.procedure.lines → Each (KnownLine keys) s.body.procedure.lines → IsProper p

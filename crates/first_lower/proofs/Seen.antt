@@ -174,15 +174,14 @@ module _ (keys : List (List ℕ)) (p : Program) (body : Body) (scalar : (leaf : 
     statement_proper (Assign target value) known = (assignment_proper target value known.0 known.1, tt)
     statement_proper (If test main) known =
         ((right_test keys (cells_of p) scalar test known.0, chain_proper (low_codes keys main) (codes_proper main known.1), tt), tt)
-    statement_proper (IfElse test main other) known =
-        (
-          (
-            right_test keys (cells_of p) scalar test known.0,
-            chain_proper (low_codes keys main) (codes_proper main known.1),
-            chain_proper (low_codes keys other) (codes_proper other known.2),
-          ),
-          tt,
-        )
+    statement_proper (IfElse test main other) known = (
+      (
+        right_test keys (cells_of p) scalar test known.0,
+        chain_proper (low_codes keys main) (codes_proper main known.1),
+        chain_proper (low_codes keys other) (codes_proper other known.2),
+      ),
+      tt,
+    )
 
   -- what is proper anywhere is so in the body's own list
   member_proper : (a : Code) → IsProperCode p body a → IsProperMember p body a
