@@ -1,5 +1,5 @@
-ghost use Rattle.std.specs.Prelude.{◌≡◌, ◌≢◌, ℕ, ◌<◌, ◌^◌, ◌↔◌, ◌⊎◌, length, IsTrue, IfOk, false, slice_index_or, List, Bool, All, vec_len};
-ghost use Rattle.flow_relations.specs.Sets.{Has, Tells, either, Relates, TellsPairs, AreWide, Gains, GainsPair, Composes, LeadsTo, rooms};
+ghost use Rattle.std.specs.Prelude.{◌≡◌, ◌≢◌, ℕ, ◌<◌, ◌^◌, ◌↔◌, ◌⊎◌, length, IsTrue, IfOk, false, slice_index_or, List, Bool, All, vec_len, []};
+ghost use Rattle.flow_relations.specs.Sets.{Has, Tells, either, Relates, TellsPairs, AreWide, Gains, GainsPair, Composes, LeadsTo, Closes};
 
 use crate::rows::Row;
 use spark_base::NoMemory;
@@ -18,7 +18,7 @@ pub struct Square {
 
 impl Model for Square {
     ghost use Rattle.std.specs.Prelude.{List, Bool, ◌<◌, ◌^◌, length};
-    ghost use Rattle.flow_relations.specs.Sets.{AreWide, Gains, GainsPair, Composes, LeadsTo, rooms};
+    ghost use Rattle.flow_relations.specs.Sets.{AreWide, Gains, GainsPair, Composes, LeadsTo};
 
     ghost Value = { List (List Bool) };
 
@@ -39,6 +39,15 @@ impl Square {
         }
         let rows = empty_rows(alloc, size)?;
         Ok(Square { rows })
+    }
+
+    /// No pairs of no numbers. It takes no memory.
+    pub fn none(alloc: Global) -> Square
+        ensures { result ≡ [] }
+    {
+        Square {
+            rows: Vec::new(alloc),
+        }
     }
 
     /// The numbers of the pairs are below it.
@@ -153,7 +162,6 @@ impl Square {
         ensures set { TellsPairs self.new (λ a c. Relates self.old a c
             ⊎ Composes first.now second.now a c) }
         ensures grew { IsTrue result → GainsPair self.old self.new }
-        ensures room { IsTrue result → rooms self.new < rooms self.old }
         ensures same { result ≡ false → self.new ≡ self.old }
     {
         compose_rows(
@@ -162,6 +170,93 @@ impl Square {
             second.rows.as_slice(),
         )
     }
+
+    /// Adds each number with itself, and each (a, c) to which a chain of pairs leads. It takes no memory.
+    pub fn close(&mut self)
+        ensures size { length self.new ≡ length self.old }
+        ensures set { TellsPairs self.new (Closes self.old) }
+    {
+        close_rows(self.rows.as_mut_slice());
+    }
+}
+
+// Adds (a, c) where (k, c) is there.
+fn step_pair(into: &mut [Row], a: usize, k: usize, c: u32)
+    requires a { a < length into.old }
+    requires k { k < length into.old }
+    requires c { c < length into.old }
+    requires wide { AreWide (length into.old) into.old }
+    ensures wide { AreWide (length into.old) into.new }
+    ensures set { TellsPairs into.new (λ x y. Relates into.old x y ⊎ ((x ≡ a) × ((y ≡ c) × Relates into.old k y))) }
+{
+    if into[k].has(c) {
+        into[a].add(c);
+    }
+}
+
+// Adds (a, c) for each (k, c).
+fn step_pairs(into: &mut [Row], a: usize, k: usize)
+    requires size { length into.old < 2 ^ 32 }
+    requires a { a < length into.old }
+    requires k { k < length into.old }
+    requires wide { AreWide (length into.old) into.old }
+    ensures wide { AreWide (length into.old) into.new }
+    ensures set { TellsPairs into.new (λ x y. Relates into.old x y ⊎ ((x ≡ a) × Relates into.old k y)) }
+{
+    for c in 0..into.len() {
+        step_pair(into, a, k, c as u32);
+    }
+}
+
+// Adds (a, c) for each (k, c), where (a, k) is there.
+fn step_row(into: &mut [Row], a: usize, k: usize)
+    requires size { length into.old < 2 ^ 32 }
+    requires a { a < length into.old }
+    requires k { k < length into.old }
+    requires wide { AreWide (length into.old) into.old }
+    ensures wide { AreWide (length into.old) into.new }
+    ensures set { TellsPairs into.new (λ x y. Relates into.old x y ⊎ ((x ≡ a) × (Relates into.old x k × Relates into.old k y))) }
+{
+    if into[a].has(k as u32) {
+        step_pairs(into, a, k);
+    }
+}
+
+// Adds (a, c) for each (a, k) and (k, c).
+fn step_rows(into: &mut [Row], k: usize)
+    requires size { length into.old < 2 ^ 32 }
+    requires k { k < length into.old }
+    requires wide { AreWide (length into.old) into.old }
+    ensures wide { AreWide (length into.old) into.new }
+    ensures set { TellsPairs into.new (λ x y. Relates into.old x y ⊎ (Relates into.old x k × Relates into.old k y)) }
+{
+    for a in 0..into.len() {
+        step_row(into, a, k);
+    }
+}
+
+// Adds each number with itself.
+fn add_diagonal(into: &mut [Row])
+    requires size { length into.old < 2 ^ 32 }
+    requires wide { AreWide (length into.old) into.old }
+    ensures wide { AreWide (length into.old) into.new }
+    ensures set { TellsPairs into.new (λ x y. Relates into.old x y ⊎ ((x < length into.old) × (x ≡ y))) }
+{
+    for a in 0..into.len() {
+        into[a].add(a as u32);
+    }
+}
+
+fn close_rows(into: &mut [Row])
+    requires size { length into.old < 2 ^ 32 }
+    requires wide { AreWide (length into.old) into.old }
+    ensures wide { AreWide (length into.old) into.new }
+    ensures set { TellsPairs into.new (Closes into.old) }
+{
+    for k in 0..into.len() {
+        step_rows(into, k);
+    }
+    add_diagonal(into);
 }
 
 fn empty_rows(alloc: Global, size: u32) -> Result<Vec<Row>, NoMemory>
@@ -187,7 +282,6 @@ fn compose_rows(into: &mut [Row], first: &[Row], second: &[Row]) -> bool
     ensures set { TellsPairs into.new (λ a c. Relates into.old a c
         ⊎ Composes first.now second.now a c) }
     ensures grew { IsTrue result → GainsPair into.old into.new }
-    ensures room { IsTrue result → rooms into.new < rooms into.old }
     ensures same { result ≡ false → into.new ≡ into.old }
 {
     let mut grew = false;
