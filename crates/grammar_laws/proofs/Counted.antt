@@ -1,18 +1,16 @@
 -- Behind an expression its operators are counted.
-use Rattle.std.proofs.Common.{◌≡◌, ◌⊎◌, inl, inr, ℕ, zero, suc, ◌+◌, ◌-◌, ◌<◌, ◌≤◌, Bool, true, false, ◌&&◌, not, if◌then◌else◌, nat_le, List, [], ◌∷◌, ◌++◌, Option, Some, None, refl, sym, ◌∙◌, ap, subst, arith, leb-true}
+use Rattle.std.proofs.Common.{◌≡◌, ℕ, ◌+◌, ◌-◌, ◌≤◌, Bool, true, false, ◌&&◌, if◌then◌else◌, nat_le, List, [], ◌∷◌, ◌++◌, Option, Some, None, refl, sym, ◌∙◌, ap, subst, arith, leb-true}
 use Rattle.ada_tree.specs.declared.expressions.LogicalOperator.{LogicalOperator}
 use Rattle.ada_tree.specs.declared.expressions.LogicalOperator.TheVariants as logical
 use Rattle.ada_tree.specs.declared.expressions.ExprKind.TheVariants as expressions
 use Rattle.ada_tree.specs.declared.token.TokenKind.{TokenKind}
 use Rattle.ada_grammar.specs.declared.nodes.Form.TheVariants as forms
 use Rattle.ada_tree.specs.declared.token.TokenKind.TheVariants as kinds
-use Rattle.ada_grammar.specs.declared.tokens.Class.{Class}
 use Rattle.ada_grammar.specs.declared.tokens.Last.{Last}
 use Rattle.ada_grammar.specs.declared.tokens.Last.TheVariants as lasts
 use Rattle.ada_grammar.specs.declared.tokens.Nesting.{Nesting}
-use Rattle.ada_grammar.specs.Sorts.{is_in}
 use Rattle.ada_grammar.specs.Lexemes.{Lexeme, sort}
-use Rattle.ada_grammar.specs.Limits.{is_end, is_parameter, step, step_on, walk, walk_on, outermost, most_operators}
+use Rattle.ada_grammar.specs.Limits.{is_end, is_parameter, step, step_on, walk, walk_on, outermost}
 use Rattle.ada_grammar.specs.Phrases as phrases
 use Rattle.ada_grammar.specs.Phrases.{Phrase, Tree, Root, With, with_all}
 use Rattle.ada_grammar.specs.Parts.{Part, Expr, Continued, RestOfExpr, BehindAnd, BehindOr, Opened, Begun, Chain, Rel, RestOfRel, Membership, Simple, Signed, Sums, Term, Products, Factor, Powered, Primary, Parens, Condition, Arms, InParens, NamedFrom, BehindExpr, Items, LastItem, Association, Choices, Associations, Choice, Name, Suffixes, MayOpen, BehindTick, BehindAttribute, ValuesFrom, Values, ArgumentsFrom, Arguments, Argument, Body, Never, Gives, Take, Call, Rest, Or, When}
@@ -220,8 +218,8 @@ pub owed : (p : Part) → is_part p ≡ true → Owes p (rule p) (begins p)
 owed Expr e = (refl, λ a n h. (refl, refl, omega arith))
 owed (Continued a) e = (refl, λ r n h. (refl, refl, omega arith))
 owed (RestOfExpr a) e = (
-    λ o. (refl, refl, omega arith),
-    (λ o. (refl, refl, omega arith), (λ o. (refl, refl, omega arith), (refl, refl, omega arith))),
+  λ o. (refl, refl, omega arith),
+  (λ o. (refl, refl, omega arith), (λ o. (refl, refl, omega arith), (refl, refl, omega arith))),
 )
 owed (BehindAnd a o) e = (λ t. (refl, refl, omega arith), (refl, refl, omega arith))
 owed (BehindOr a o) e = (λ t. (refl, refl, omega arith), (refl, refl, omega arith))
@@ -230,8 +228,8 @@ owed (Begun operator a o) e = (refl, λ b n h. (refl, refl, omega arith))
 owed (Chain operator a) e = chain operator a
 owed Rel e = (refl, λ a n h. (refl, refl, omega arith))
 owed (RestOfRel a) e = (
-    λ o. (refl, λ b n h. (refl, refl, omega arith)),
-    (λ o i. (refl, refl, omega arith), (λ i. (refl, refl, omega arith), (refl, refl, omega arith))),
+  λ o. (refl, λ b n h. (refl, refl, omega arith)),
+  (λ o i. (refl, refl, omega arith), (λ i. (refl, refl, omega arith), (refl, refl, omega arith))),
 )
 owed (Membership is_not a) e = (refl, λ low n h. (λ d. (refl, λ high m g. (refl, refl, omega arith)), ((refl, refl, omega arith), tt)))
 owed Simple e = (refl, λ a n h. (refl, refl, omega arith))
@@ -240,40 +238,40 @@ owed (Sums a) e = (λ o. (refl, λ b n h. (refl, refl, omega arith)), (refl, ref
 owed Term e = (refl, λ a n h. (refl, refl, omega arith))
 owed (Products a) e = (λ o. (refl, λ b n h. (refl, refl, omega arith)), (refl, refl, omega arith))
 owed Factor e = (
-    λ t. (refl, λ a n h. (refl, refl, omega arith)),
-    (λ t. (refl, λ a n h. (refl, refl, omega arith)), (refl, refl, omega arith)),
+  λ t. (refl, λ a n h. (refl, refl, omega arith)),
+  (λ t. (refl, λ a n h. (refl, refl, omega arith)), (refl, refl, omega arith)),
 )
 owed Powered e = (refl, λ a n h. (λ o. (refl, λ b m g. (refl, refl, omega arith)), (refl, refl, omega arith)))
 owed Primary e = (λ t. (refl, refl, omega arith), (λ t. (refl, refl, omega arith), λ o. (refl, refl, omega arith)))
 owed (Parens o) e = (λ t. (refl, λ c n h z. (refl, refl, omega arith)), (refl, refl, omega arith))
 owed (Condition t) e = (refl, λ c n h u. (refl, λ v m g. (refl, refl, omega arith)))
 owed (Arms t arms) e = (
-    λ i. (refl, λ c n h u. (refl, λ v m g. (refl, refl, (let a = one_more arms c.tree in let b = one_more (arms ++ c.tree ∷ []) v.tree in omega arith)))),
-    λ i. (refl, λ v n h. (refl, refl, (let a = one_more arms v.tree in let b = more_operators (phrases.node forms.Simple expressions.Conditional (phrases.join t.token.span v.span) []).tree (arms ++ v.tree ∷ []) in omega arith))),
+  λ i. (refl, λ c n h u. (refl, λ v m g. (refl, refl, (let a = one_more arms c.tree in let b = one_more (arms ++ c.tree ∷ []) v.tree in omega arith)))),
+  λ i. (refl, λ v n h. (refl, refl, (let a = one_more arms v.tree in let b = more_operators (phrases.node forms.Simple expressions.Conditional (phrases.join t.token.span v.span) []).tree (arms ++ v.tree ∷ []) in omega arith))),
 )
 owed (InParens o) e = (
-    λ t. (refl, refl, omega arith),
-    (refl, λ a n h. (λ d. (refl, λ high m g. (refl, refl, omega arith)), (refl, λ x m g. (refl, refl, omega arith)))),
+  λ t. (refl, refl, omega arith),
+  (refl, λ a n h. (λ d. (refl, λ high m g. (refl, refl, omega arith)), (refl, λ x m g. (refl, refl, omega arith)))),
 )
 owed (NamedFrom o c) e = (refl, λ a n h. (refl, refl, omega arith))
 owed (BehindExpr o x) e = (λ z. (refl, refl, omega arith), (λ c. (refl, λ b n h. (refl, refl, omega arith)), (refl, refl, omega arith)))
 owed (Items o items) e = (
-    λ c. (λ t. (refl, refl, omega arith), (refl, λ b n h. (refl, refl, (let a = one_more items b.tree in omega arith)))),
-    λ z. (refl, refl, (let a = more_operators (phrases.positional false o [] z).tree items in omega arith)),
+  λ c. (λ t. (refl, refl, omega arith), (refl, λ b n h. (refl, refl, (let a = one_more items b.tree in omega arith)))),
+  λ z. (refl, refl, (let a = more_operators (phrases.positional false o [] z).tree items in omega arith)),
 )
 owed (LastItem o items) e = λ r. (refl, λ v n h z. (refl, refl, (let a = one_more items v.tree in let b = more_operators (phrases.positional true o [] z).tree (items ++ v.tree ∷ []) in omega arith)))
 owed Association e = (refl, λ c n h. (refl, refl, omega arith))
 owed (Choices first choices) e = (
-    λ b. (refl, λ c n h. (refl, refl, (let a = one_more choices c.tree in omega arith))),
-    λ r. (refl, λ v n h. (refl, refl, (let a = one_more choices v.tree in let b = more_operators (phrases.node forms.Simple expressions.Association (phrases.join first v.span) []).tree (choices ++ v.tree ∷ []) in omega arith))),
+  λ b. (refl, λ c n h. (refl, refl, (let a = one_more choices c.tree in omega arith))),
+  λ r. (refl, λ v n h. (refl, refl, (let a = one_more choices v.tree in let b = more_operators (phrases.node forms.Simple expressions.Association (phrases.join first v.span) []).tree (choices ++ v.tree ∷ []) in omega arith))),
 )
 owed (Associations o associations) e = (
-    λ c. (refl, λ x n h. (refl, refl, (let a = one_more associations x.tree in omega arith))),
-    λ z. (refl, refl, (let a = more_operators (phrases.named_aggregate o [] z).tree associations in omega arith)),
+  λ c. (refl, λ x n h. (refl, refl, (let a = one_more associations x.tree in omega arith))),
+  λ z. (refl, refl, (let a = more_operators (phrases.named_aggregate o [] z).tree associations in omega arith)),
 )
 owed Choice e = (
-    λ t. (refl, refl, omega arith),
-    (refl, λ a n h. (λ d. (refl, λ high m g. (refl, refl, omega arith)), (refl, λ x m g. (refl, refl, omega arith)))),
+  λ t. (refl, refl, omega arith),
+  (refl, λ a n h. (λ d. (refl, λ high m g. (refl, refl, omega arith)), (refl, λ x m g. (refl, refl, omega arith)))),
 )
 owed Name e = λ t. (refl, refl, omega arith)
 owed (Suffixes may_open a) e = (λ d n. (refl, refl, omega arith), (λ t. (refl, refl, omega arith), (refl, refl, omega arith)))
@@ -281,18 +279,18 @@ owed (MayOpen true a) e = (λ o. (refl, λ n m h. (refl, refl, omega arith)), (r
 owed (MayOpen false a) e = (refl, refl, omega arith)
 owed (BehindTick a) e = (λ n. (refl, refl, omega arith), λ o. (refl, λ q n h. (refl, refl, omega arith)))
 owed (BehindAttribute a n) e = (
-    λ o. (refl, λ v m h. (refl, refl, omega arith)),
-    (refl, refl, (let b = attribute_operators n.token.kind a n in omega arith)),
+  λ o. (refl, λ v m h. (refl, refl, omega arith)),
+  (refl, refl, (let b = attribute_operators n.token.kind a n in omega arith)),
 )
 owed (ValuesFrom a n) e = (refl, λ b m h. (refl, refl, omega arith))
 owed (Values first n values) e = (
-    λ c. (refl, λ b m h. (refl, refl, (let a = one_more values b.tree in omega arith))),
-    λ z. (refl, refl, (let a = values_operators n.token.kind first n values z in omega arith)),
+  λ c. (refl, λ b m h. (refl, refl, (let a = one_more values b.tree in omega arith))),
+  λ z. (refl, refl, (let a = values_operators n.token.kind first n values z in omega arith)),
 )
 owed (ArgumentsFrom a) e = (refl, λ b m h. (refl, refl, omega arith))
 owed (Arguments first arguments) e = (
-    λ c. (refl, λ b m h. (refl, refl, (let a = one_more arguments b.tree in omega arith))),
-    λ z. (refl, refl, (let a = more_operators (phrases.applied first [] z).tree arguments in omega arith)),
+  λ c. (refl, λ b m h. (refl, refl, (let a = one_more arguments b.tree in omega arith))),
+  λ z. (refl, refl, (let a = more_operators (phrases.applied first [] z).tree arguments in omega arith)),
 )
 owed Argument e = (refl, λ a n h. ((λ r. (refl, λ b m g. (refl, refl, omega arith)), (refl, refl, omega arith)), (refl, refl, omega arith)))
 owed p e = false_true e

@@ -6,7 +6,6 @@ use Rattle.ada_tree.specs.declared.token.TokenKind.{TokenKind}
 use Rattle.ada_tree.specs.declared.token.TokenKind.TheVariants as kinds
 use Rattle.ada_grammar.specs.declared.nodes.Form.{Form}
 use Rattle.ada_grammar.specs.declared.nodes.Form.TheVariants as forms
-use Rattle.ada_grammar.specs.declared.tokens.Class.TheVariants as classes
 use Rattle.ada_grammar.specs.Sorts.{is_in}
 use Rattle.ada_grammar.specs.Lexemes.{Lexeme, sort}
 use Rattle.ada_grammar.specs.Phrases as phrases
@@ -196,8 +195,8 @@ pub made : (p : Part) → Holds Made (rule p) (Made p)
 made Expr = λ a u s f y v g goes. kept a y u v f goes
 made (Continued a) = λ r u s f y v g goes. goes_on a r y u v f goes
 made (RestOfExpr a) = (
-    λ o is y v g f. unnamed_goes a y (o ∷ v) f,
-    (λ o is y v g f. unnamed_goes a y (o ∷ v) f, (λ o is y v g f. unnamed_goes a y (o ∷ v) f, end a)),
+  λ o is y v g f. unnamed_goes a y (o ∷ v) f,
+  (λ o is y v g f. unnamed_goes a y (o ∷ v) f, (λ o is y v g f. unnamed_goes a y (o ∷ v) f, end a)),
 )
 made (BehindAnd a o) = (λ t is y v g f. f, λ y v g f. f)
 made (BehindOr a o) = (λ t is y v g f. f, λ y v g f. f)
@@ -206,8 +205,8 @@ made (Begun operator a o) = λ b u s f m. false_true m
 made (Chain operator a) = chain operator a
 made Rel = λ a u s f y v g goes. kept a y u v f goes
 made (RestOfRel a) = (
-    λ o is b u s f m. absurd (false_true m),
-    (λ n is i also y v g f. unnamed_goes a y (n ∷ i ∷ v) f, (λ i is y v g f. unnamed_goes a y (i ∷ v) f, end a)),
+  λ o is b u s f m. absurd (false_true m),
+  (λ n is i also y v g f. unnamed_goes a y (n ∷ i ∷ v) f, (λ i is y v g f. unnamed_goes a y (i ∷ v) f, end a)),
 )
 made (Membership is_not a) = λ low u s f. (λ d is high v g h m. false_true m, (λ e m. false_true m, λ e. tt))
 made Simple = λ a u s f y v g goes. kept a y u v f goes
@@ -218,8 +217,8 @@ made (Products a) = (λ o is b u s f y v g goes m. absurd (lost (phrases.product
 made Factor = (λ t is a u s f m. absurd (false_true m), (λ t is a u s f m. absurd (false_true m), λ y v g f. f))
 made Powered = λ a u s f. (λ o is b v g h m. absurd (false_true m), subst (λ (z : List Lexeme). Whole a z) (sym (append-nil u)) f)
 made Primary = (
-    λ t is m. absurd (false_true m),
-    (λ t is y v g f m. (take is (rest g), λ e. take is (rest (f e).1)), λ o is y v g f. unnamed y (o ∷ v) f),
+  λ t is m. absurd (false_true m),
+  (λ t is y v g f m. (take is (rest g), λ e. take is (rest (f e).1)), λ o is y v g f. unnamed y (o ∷ v) f),
 )
 made (Parens o) = (λ t is c u s f z close m. false_true m, λ y v g f. f)
 made (InParens o) = (λ t is y v g f. f, λ a u s f. (λ d is h v g i y x j k. k, λ e v g goes y x j k. k))
@@ -229,30 +228,30 @@ made (Items o items) = (λ c is. (λ t also y v g h. h, λ b u s f y v g h. h), 
 made (LastItem o items) = λ r is v u s f z also m. false_true m
 made (Associations o associations) = (λ c is a u s f y v g h. h, λ z is m. false_true m)
 made (Suffixes may_open a) = (
-    λ d is n also y v g f m. (selected_marks a.form (f m).0, left (take is (take also (rest (f m).1)))),
-    (λ t is y v g f m. absurd (f m), λ y v g f. f),
+  λ d is n also y v g f m. (selected_marks a.form (f m).0, left (take is (take also (rest (f m).1)))),
+  (λ t is y v g f m. absurd (f m), λ y v g f. f),
 )
 made (MayOpen true a) = (λ o is n u s f y v g goes m. absurd (f (goes m).0), λ m. (m, right gives))
 made (MayOpen false a) = λ m. (m, right gives)
 made (BehindTick a) = (λ n is y v g f. f, λ o is q u s f y v g goes m. false_true (goes m).0)
 made (BehindAttribute a n) = (
-    λ o is x u s f y v g goes m. f (goes m).0,
-    λ y v g goes m. contrary (phrases.is_mark (phrases.attribute n.token.kind a n).form) (attribute_other n.token.kind a n) (goes m).0,
+  λ o is x u s f y v g goes m. f (goes m).0,
+  λ y v g goes m. contrary (phrases.is_mark (phrases.attribute n.token.kind a n).form) (attribute_other n.token.kind a n) (goes m).0,
 )
 made (ValuesFrom a n) = λ b u s f y v g h. h
 made (Values first n values) = (
-    λ c is b u s f y v g h. h,
-    λ z is m. contrary (phrases.is_mark (phrases.attribute_of n.token.kind first n values z).form) (values_other n.token.kind first n values z) m,
+  λ c is b u s f y v g h. h,
+  λ z is m. contrary (phrases.is_mark (phrases.attribute_of n.token.kind first n values z).form) (values_other n.token.kind first n values z) m,
 )
 made (ArgumentsFrom a) = λ b u s f y v g h. h
 made (Arguments first arguments) = (λ c is b u s f y v g h. h, λ z is m. false_true m)
 made (Points a) = (
-    λ d is n also y v g f. (
-        left (take is (take also (rest f.0))),
-        λ m. absurd (contrary (phrases.is_identifier (phrases.selected_form a.form)) (selected_other a.form) (subst (λ (z : Phrase). phrases.is_identifier z.form ≡ true) (f.1 m).0 m)),
-        λ m. f.2 (marks_selected a.form m),
-    ),
-    (right (right (rest (right gives))), λ m. (refl, refl), λ m. m),
+  λ d is n also y v g f. (
+    left (take is (take also (rest f.0))),
+    λ m. absurd (contrary (phrases.is_identifier (phrases.selected_form a.form)) (selected_other a.form) (subst (λ (z : Phrase). phrases.is_identifier z.form ≡ true) (f.1 m).0 m)),
+    λ m. f.2 (marks_selected a.form m),
+  ),
+  (right (right (rest (right gives))), λ m. (refl, refl), λ m. m),
 )
 made p = nothing Made (rule p)
 

@@ -1,5 +1,5 @@
 -- What the limits know in an expression, and what a token does to it.
-use Rattle.std.proofs.Common.{◌≡◌, ◌⊎◌, inl, inr, ℕ, zero, suc, ◌+◌, ◌-◌, ◌<◌, ◌≤◌, Bool, true, false, ◌&&◌, ◌||◌, if◌then◌else◌, nat_lt, nat_eq, nat_le, get_or, List, [], ◌∷◌, ◌++◌, Option, Some, None, refl, sym, ◌∙◌, ap, subst, arith}
+use Rattle.std.proofs.Common.{◌≡◌, ◌⊎◌, inl, inr, ℕ, zero, suc, ◌+◌, ◌-◌, ◌<◌, ◌≤◌, Bool, true, false, ◌||◌, if◌then◌else◌, nat_lt, nat_eq, get_or, List, [], ◌∷◌, Option, Some, None, refl, sym, ◌∙◌, ap, subst, arith}
 use Rattle.std.proofs.lemmas.Bool.{ltb-false, ltb-true, eqb-true, le-ltb, ne_eqb}
 use Rattle.ada_tree.specs.declared.token.Mark.{Mark}
 use Rattle.ada_tree.specs.declared.token.Mark.TheVariants as marks
@@ -14,8 +14,8 @@ use Rattle.ada_grammar.specs.declared.tokens.Nesting.{Nesting}
 use Rattle.ada_grammar.specs.declared.weights.Weight.{Weight}
 use Rattle.ada_grammar.specs.declared.weights.Weight.TheVariants as weights
 use Rattle.ada_grammar.specs.Sorts.{Sort, WordSort, NumberSort, ReservedSort, MarkSort, is_in, is_word, is_relational, is_adding, is_multiplying}
-use Rattle.ada_grammar.specs.Numbers.{mark_number, same_word, same_mark}
-use Rattle.ada_grammar.specs.Limits.{most_operators, most_open, with_last, with_open, closed, weighed, ended, counts, counted, contained, member, outside, behind_dots, behind_range, behind_then, behind_else, divided, in_for_head, with_count, with_depth, is_end, is_not, is_and, is_or, is_is, is_tick, is_parameter, anew, weight_of, last_of, word_weight, mark_weight, step, step_on, walk, walk_on}
+use Rattle.ada_grammar.specs.Numbers.{mark_number, same_mark}
+use Rattle.ada_grammar.specs.Limits.{most_operators, most_open, with_last, with_open, closed, weighed, ended, counted, contained, member, outside, behind_dots, behind_range, behind_then, behind_else, divided, in_for_head, with_count, with_depth, is_end, is_not, is_and, is_or, is_is, is_tick, is_parameter, anew, weight_of, last_of, step}
 use Rattle.ada_grammar.specs.Lexemes.{Lexeme, sort}
 use Rattle.ada_grammar.proofs.EverySort.{one_word}
 
@@ -291,7 +291,7 @@ contains_at : (a b : Bool) (k : Last) (z : Nesting) (d : ℕ) (s x : State) (n m
 contains_at a b k z d s x n m ea eb head t h e =
     let free : in_for_head n ≡ false = no_head n (ap is_parameter t.head ∙ head) in
     let f : with_last k (if is_not n.last then Some (member n) else counted (member n)) ≡ Some m =
-        sym (ap (λ (o : Option Nesting). with_last k o) (if_false (in_for_head n) (Some (anew (with_open n n.compounds n.loops loop_heads.Scheme))) (if is_not n.last then Some (member n) else counted (member n)) free)) ∙ e in
+    sym (ap (λ (o : Option Nesting). with_last k o) (if_false (in_for_head n) (Some (anew (with_open n n.compounds n.loops loop_heads.Scheme))) (if is_not n.last then Some (member n) else counted (member n)) free)) ∙ e in
     by a b ea eb h f
   where
     by : (a b : Bool) → a ≡ was_not s.last → b ≡ was_other s.last
@@ -300,14 +300,14 @@ contains_at a b k z d s x n m ea eb head t h e =
     by true b ea eb h f =
         let same : is_not n.last ≡ true = ap is_not (was_not_last s.last n.last (sym ea) t.last) in
         came z d (record s { member = true; last = Some k }) x (record (member n) { last = k }) m h
-            (settled k (if is_not n.last then Some (member n) else counted (member n)) (member n) m (if_true (is_not n.last) (Some (member n)) (counted (member n)) same) f)
-            (keeps k z d (record s { member = true }) (member n) (joined z d s n t))
+        (settled k (if is_not n.last then Some (member n) else counted (member n)) (member n) m (if_true (is_not n.last) (Some (member n)) (counted (member n)) same) f)
+        (keeps k z d (record s { member = true }) (member n) (joined z d s n t))
     by false true ea eb h f =
         let other : is_not n.last ≡ false = ap is_not (was_other_last s.last n.last (sym eb) t.last) in
         let g : with_last k (counted (member n)) ≡ Some m = sym (ap (λ (o : Option Nesting). with_last k o) (if_false (is_not n.last) (Some (member n)) (counted (member n)) other)) ∙ f in
         let c = settled_if k (nat_lt (member n).operators most_operators) (with_count (member n) ((member n).operators + 1) (member n).parted) m g in
         came z d (record (counted_on s) { member = true; last = Some k }) x (record (with_count (member n) ((member n).operators + 1) (member n).parted) { last = k }) m h c.1
-            (grown k z d (record s { member = true }) (member n) (joined z d s n t) c.0)
+        (grown k z d (record s { member = true }) (member n) (joined z d s n t) c.0)
     by false false ea eb h f = none_some x h
 
 last_passed : (k : Last) (b : Bool) (s x : State) → last_is k (if b then Some s else None) ≡ Some x → (b ≡ true) × (Some (record s { last = Some k }) ≡ Some x)
@@ -354,7 +354,7 @@ higher k z d s n t e = let deep = inside_deep s.deep e in record {
 weighs : (v : Weight) (k : Last) (z : Nesting) (d : ℕ) (s x : State) (n m : Nesting) → is_parameter z.head ≡ false → Tracks z d s n → last_is k (moved v s) ≡ Some x → with_last k (weighed n v) ≡ Some m → Tracks z d x m
 weighs weights.Nothing k z d s x n m head t h e =
     came z d (record s { last = Some k }) x (record n { last = k }) m h
-        (settled k (weighed n weights.Nothing) n m (if_false n.skips (Some n) (if nat_eq n.depth 0 then Some n else Some n) t.skips ∙ if_same (nat_eq n.depth 0) (Some n)) e) (keeps k z d s n t)
+    (settled k (weighed n weights.Nothing) n m (if_false n.skips (Some n) (if nat_eq n.depth 0 then Some n else Some n) t.skips ∙ if_same (nat_eq n.depth 0) (Some n)) e) (keeps k z d s n t)
 weighs weights.Operator k z d s x n m head t h e =
     let f : with_last k (counted n) ≡ Some m = sym (ap (λ (o : Option Nesting). with_last k o) (if_false n.skips (Some n) (counted n) t.skips)) ∙ e in
     let c = settled_if k (nat_lt n.operators most_operators) (with_count n (n.operators + 1) n.parted) m f in
@@ -367,45 +367,45 @@ weighs weights.Divides k z d s x n m head t h e =
     came z d (record (counted_on s) { last = Some k }) x (record (with_count n (n.operators + 1) n.parted) { last = k }) m p.1 c.1 (grown k z d s n t c.0)
 weighs weights.Contains k z d s x n m head t h e =
     contains_at (was_not s.last) (was_other s.last) k z d s x n m refl refl head t h
-        (sym (ap (λ (o : Option Nesting). with_last k o) (if_false n.skips (Some n) (contained n) t.skips)) ∙ e)
+    (sym (ap (λ (o : Option Nesting). with_last k o) (if_false n.skips (Some n) (contained n) t.skips)) ∙ e)
 weighs weights.Dots k z d s x n m head t h e =
     let p = last_passed k (s.member || inside s.deep) s x h in
     let low : n.parted ≤ n.depth = elim (or_cases s.member (inside s.deep) p.0) [ inl i ↦ t.member i | inr i ↦ deep_parted z d s n t i ] in
     let still : behind_dots n ≡ n = if_false (nat_lt n.depth n.parted) (with_count n 0 n.parted) n (le-ltb n.depth n.parted low) in
     came z d (record s { last = Some k }) x (record n { last = k }) m p.1
-        (settled k (weighed n weights.Dots) n m (if_false n.skips (Some n) (Some (behind_dots n)) t.skips ∙ ap (λ (i : Nesting). Some i) still) e) (keeps k z d s n t)
+    (settled k (weighed n weights.Dots) n m (if_false n.skips (Some n) (Some (behind_dots n)) t.skips ∙ ap (λ (i : Nesting). Some i) still) e) (keeps k z d s n t)
 weighs weights.Ranges k z d s x n m head t h e =
     let p = last_passed k (was_tick s.last) s x h in
     let tick : is_tick n.last ≡ true = ap is_tick (was_tick_last s.last n.last p.0 t.last) in
     let still : behind_range n ≡ n = if_true (is_tick n.last) n (with_count n 0 n.parted) tick in
     came z d (record s { last = Some k }) x (record n { last = k }) m p.1
-        (settled k (weighed n weights.Ranges) n m (if_false n.skips (Some n) (Some (behind_range n)) t.skips ∙ ap (λ (i : Nesting). Some i) still) e) (keeps k z d s n t)
+    (settled k (weighed n weights.Ranges) n m (if_false n.skips (Some n) (Some (behind_range n)) t.skips ∙ ap (λ (i : Nesting). Some i) still) e) (keeps k z d s n t)
 weighs weights.Then k z d s x n m head t h e =
     let p = last_passed k (was_and s.last || inside s.deep) s x h in
     let still : (if nat_eq n.depth 0 then Some (behind_then n) else Some n) ≡ Some n = elim (or_cases (was_and s.last) (inside s.deep) p.0) [
-        inl i ↦ ap (λ (j : Nesting). if nat_eq n.depth 0 then Some j else Some n) (if_true (is_and n.last) n (anew n) (ap is_and (was_and_last s.last n.last i t.last))) ∙ if_same (nat_eq n.depth 0) (Some n)
-        | inr i ↦ if_false (nat_eq n.depth 0) (Some (behind_then n)) (Some n) (within z d s n t i)
+      | inl i ↦ ap (λ (j : Nesting). if nat_eq n.depth 0 then Some j else Some n) (if_true (is_and n.last) n (anew n) (ap is_and (was_and_last s.last n.last i t.last))) ∙ if_same (nat_eq n.depth 0) (Some n)
+      | inr i ↦ if_false (nat_eq n.depth 0) (Some (behind_then n)) (Some n) (within z d s n t i)
     ] in
     came z d (record s { last = Some k }) x (record n { last = k }) m p.1
-        (settled k (weighed n weights.Then) n m (if_false n.skips (Some n) (if nat_eq n.depth 0 then Some (behind_then n) else Some n) t.skips ∙ still) e) (keeps k z d s n t)
+    (settled k (weighed n weights.Then) n m (if_false n.skips (Some n) (if nat_eq n.depth 0 then Some (behind_then n) else Some n) t.skips ∙ still) e) (keeps k z d s n t)
 weighs weights.Else k z d s x n m head t h e =
     let p = last_passed k (was_or s.last || inside s.deep) s x h in
     let still : (if nat_eq n.depth 0 then Some (behind_else n) else Some n) ≡ Some n = elim (or_cases (was_or s.last) (inside s.deep) p.0) [
-        inl i ↦ ap (λ (j : Nesting). if nat_eq n.depth 0 then Some j else Some n) (if_true (is_or n.last) n (anew n) (ap is_or (was_or_last s.last n.last i t.last))) ∙ if_same (nat_eq n.depth 0) (Some n)
-        | inr i ↦ if_false (nat_eq n.depth 0) (Some (behind_else n)) (Some n) (within z d s n t i)
+      | inl i ↦ ap (λ (j : Nesting). if nat_eq n.depth 0 then Some j else Some n) (if_true (is_or n.last) n (anew n) (ap is_or (was_or_last s.last n.last i t.last))) ∙ if_same (nat_eq n.depth 0) (Some n)
+      | inr i ↦ if_false (nat_eq n.depth 0) (Some (behind_else n)) (Some n) (within z d s n t i)
     ] in
     came z d (record s { last = Some k }) x (record n { last = k }) m p.1
-        (settled k (weighed n weights.Else) n m (if_false n.skips (Some n) (if nat_eq n.depth 0 then Some (behind_else n) else Some n) t.skips ∙ still) e) (keeps k z d s n t)
+    (settled k (weighed n weights.Else) n m (if_false n.skips (Some n) (if nat_eq n.depth 0 then Some (behind_else n) else Some n) t.skips ∙ still) e) (keeps k z d s n t)
 weighs weights.Parts k z d s x n m head t h e =
     let p = last_passed k (inside s.deep) s x h in
     came z d (record s { last = Some k }) x (record n { last = k }) m p.1
-        (settled k (weighed n weights.Parts) n m (if_false n.skips (Some n) (if nat_eq n.depth 0 then outside n weights.Parts else Some n) t.skips
-            ∙ if_false (nat_eq n.depth 0) (outside n weights.Parts) (Some n) (within z d s n t p.0)) e) (keeps k z d s n t)
+    (settled k (weighed n weights.Parts) n m (if_false n.skips (Some n) (if nat_eq n.depth 0 then outside n weights.Parts else Some n) t.skips
+    ∙ if_false (nat_eq n.depth 0) (outside n weights.Parts) (Some n) (within z d s n t p.0)) e) (keeps k z d s n t)
 weighs weights.Branches k z d s x n m head t h e =
     let p = last_passed k (inside s.deep) s x h in
     came z d (record s { last = Some k }) x (record n { last = k }) m p.1
-        (settled k (weighed n weights.Branches) n m (if_false n.skips (Some n) (if nat_eq n.depth 0 then outside n weights.Branches else Some n) t.skips
-            ∙ if_false (nat_eq n.depth 0) (outside n weights.Branches) (Some n) (within z d s n t p.0)) e) (keeps k z d s n t)
+    (settled k (weighed n weights.Branches) n m (if_false n.skips (Some n) (if nat_eq n.depth 0 then outside n weights.Branches else Some n) t.skips
+    ∙ if_false (nat_eq n.depth 0) (outside n weights.Branches) (Some n) (within z d s n t p.0)) e) (keeps k z d s n t)
 weighs weights.Opens k z d s x n m head t h e =
     let c = settled_if k (nat_lt n.depth most_open) (with_depth n (n.depth + 1)) m e in
     came z d (record s { deep = s.deep + 1; member = false; last = Some k }) x (record (with_depth n (n.depth + 1)) { last = k }) m h c.1 (deeper k z d s n t)

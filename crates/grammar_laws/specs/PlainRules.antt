@@ -1,21 +1,32 @@
 -- Plain rules of parts that the grammar has in another form, so that the next token or the phrase so far decides what is read.
 use Rattle.std.specs.Prelude.{Bool, List, [], ◌∷◌, ◌↔◌}
+use Rattle.ada_tree.specs.declared.expressions.LogicalOperator.{LogicalOperator}
+use Rattle.ada_tree.specs.declared.expressions.LogicalOperator.TheVariants as logical
 use Rattle.ada_tree.specs.declared.token.Mark.TheVariants as marks
 use Rattle.ada_tree.specs.declared.words.Reserved.TheVariants as words
 use Rattle.ada_grammar.specs.Lexemes.{Lexeme}
 use Rattle.ada_grammar.specs.Phrases as phrases
 use Rattle.ada_grammar.specs.Phrases.{Phrase}
-use Rattle.ada_grammar.specs.Parts.{Part, Expr, RestOfExpr, Rel, Simple, Condition, Items, Association, Associations, Name, UnitName}
-use Rattle.ada_grammar.specs.Parts.{Indication, Body, Never, Gives, Take, Call, Rest, When, word, mark, ◌or◌, keyword, sign, identifier}
+use Rattle.ada_grammar.specs.Parts.{Part, Expr, Chain, Rel, Simple, Condition, Items, Association, Associations, Name, UnitName}
+use Rattle.ada_grammar.specs.Parts.{Indication, Body, Never, Gives, Take, Call, Rest, When, word, mark, ◌or◌, sign, identifier}
 use Rattle.ada_grammar.specs.Spelling.{Fits, Spells}
 
 -- the part has exactly the sentences of the body, with the same phrases
 abbrev pub SaysTheSame : Part → Body → Type 0
 SaysTheSame p b = (y : Phrase) (w : List Lexeme) → Spells p y w ↔ Fits b y w
 
--- expr = rel .., where what stands behind a relation begins with a word between relations
+-- rel {operator rel}
+abbrev pub chain_of : LogicalOperator → Body
+chain_of operator = Call Rel (λ a. Rest (Chain operator a))
+
+-- rel {"and" rel} | rel {"or" rel} | rel {"xor" rel} | rel {"and" "then" rel} | rel {"or" "else" rel}
 abbrev pub expression : Body
-expression = Call Rel (λ a. Rest (RestOfExpr a))
+expression =
+    chain_of logical.And
+    or chain_of logical.Or
+    or chain_of logical.Xor
+    or chain_of logical.AndThen
+    or chain_of logical.OrElse
 
 -- "others" | simple ".." simple | expr
 abbrev pub choice : Body

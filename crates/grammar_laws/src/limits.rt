@@ -9,21 +9,17 @@ ghost use Rattle.grammar_laws.specs.Counting.{IsCounted, MayBegin};
 
 /// Behind an expression that passes no limit.
 pub fn operators_are_counted()
-    ensures {
-        (x : Phrase) (w : List Lexeme) (n m : Nesting)
+    ensures { (x : Phrase) (w : List Lexeme) (n m : Nesting)
         → Spells parts.Expr x w
         → MayBegin n
         → walk n w ≡ Some m
-        → IsCounted n m x.tree
-    }
+        → IsCounted n m x.tree }
 {}
 
 /// Behind one that stands in no other.
 pub fn outermost_operators_are_counted()
-    ensures {
-        (x : Phrase) (w : List Lexeme) (depth : ℕ) (m : Nesting)
+    ensures { (x : Phrase) (w : List Lexeme) (depth : ℕ) (m : Nesting)
         → Spells parts.Expr x w
         → walk (outermost depth) w ≡ Some m
-        → IsCounted (outermost depth) m x.tree
-    }
+        → IsCounted (outermost depth) m x.tree }
 {}
