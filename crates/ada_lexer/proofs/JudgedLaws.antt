@@ -1,12 +1,13 @@
 -- What judging makes of a front, by what the front is.
-use Rattle.std.proofs.Common.{◌≡◌, ℕ, ◌+◌, ◌*◌, ◌^◌, ◌<◌, inl, inr, List, [], ◌∷◌, Bool, true, false, ◌&&◌, ◌||◌, if◌then◌else◌, None, Some, Ok, Err, Result, refl, ap, sym, subst, ◌∙◌, arith, nat_eq, nat_le}
+use Rattle.std.proofs.Common.{◌≡◌, ℕ, ◌+◌, ◌*◌, ◌^◌, ◌<◌, inl, inr, List, [], ◌∷◌, Bool, true, false, ◌&&◌, ◌||◌, if◌then◌else◌, None, Some, Ok, Err, Result, refl, ap, sym, subst, ◌∙◌, arith, nat_eq, nat_le, take, drop, ◌≤◌}
 use Rattle.std.specs.declared.option.Option.{Option}
 use Rattle.std.proofs.lemmas.Bool.Decides.{nat_tests}
 use Rattle.ada_lexer.specs.Classes.{digit_of, is_digit, is_letter, is_white, is_printable}
 use Rattle.ada_tree.specs.Marks.{single, double}
-use Rattle.ada_lexer.specs.Pieces.{space, comment, word, number, number_from, parted, text, quoted, character, mark_of, is_some}
-use Rattle.ada_lexer.specs.Cut.{judged, piece, word_kind, number_piece, text_piece, text_end, mark_piece, first_high, starts, spoils, number_value, fault}
-use Rattle.ada_lexer.specs.Laws.{IsOf, IsSound}
+use Rattle.ada_lexer.specs.Pieces.{allowed, space, comment, word, number, number_from, parted, text, quoted, character, mark_of, is_some}
+use Rattle.ada_lexer.specs.Cut.{judged, piece, word_kind, number_piece, text_piece, text_end, mark_piece, first_high, is_quote, starts, spoils, number_value, fault}
+use Rattle.ada_lexer.specs.Laws.{IsLongest}
+use Rattle.ada_lexer.specs.Joined.{IsOf, IsSound, IsWrong, malformed, large, unended, within}
 use Rattle.ada_tree.specs.Words.{reserved_of}
 use Rattle.ada_tree.specs.declared.words.Reserved.{Reserved}
 use Rattle.ada_tree.specs.declared.token.Mark.{Mark}
@@ -19,52 +20,55 @@ use Rattle.ada_lexer.proofs.Bytes.{letter-range, digit-range, white-range, lette
 use Rattle.ada_lexer.proofs.Fronts.{judged-space, judged-word, judged-number, judged-text, comment-not}
 use Rattle.ada_lexer.proofs.Others.{Other, judged-other}
 
--- a front of n bytes is of the kind that is said, and sound before what stands behind it
-abbrev pub Tells : ℕ → List ℕ → List ℕ → Result Piece Fault → Type 0
-Tells n front rest (Ok p) = (p.len ≡ n) × (IsOf p.kind front × IsSound p.kind front rest)
-Tells n front rest (Err f) = Unit {0}
+-- the longest front, of n bytes, is of the kind that is said and sound before what stands behind it; or that is wrong
+abbrev pub Tells : Bool → List ℕ → ℕ → Result Piece Fault → Type 0
+Tells ticked bytes n (Ok p) = (p.len ≡ n) × (IsOf p.kind (take n bytes) × IsSound p.kind (take n bytes) (drop n bytes))
+Tells ticked bytes n (Err f) = IsWrong ticked bytes f.code f.at
 
-word_tells : (n : ℕ) (front rest : List ℕ) (r : Option Reserved) → reserved_of front ≡ r → word front ≡ true → Tells n front rest (piece n (Some (word_kind r)))
-word_tells n front rest None e h = (refl, ((h, e), tt))
-word_tells n front rest (Some r) e h = (refl, ((h, e), tt))
+word_tells : (ticked : Bool) (bytes : List ℕ) (n : ℕ) (r : Option Reserved) → reserved_of (take n bytes) ≡ r → word (take n bytes) ≡ true → Tells ticked bytes n (piece n (Some (word_kind r)))
+word_tells ticked bytes n None e h = (refl, ((h, e), tt))
+word_tells ticked bytes n (Some r) e h = (refl, ((h, e), tt))
 
 under : (n x : ℕ) → nat_le n x ≡ false → x < n
 under n x h = grind (arith, nat_tests)
 
-number_tells : (n : ℕ) (front rest : List ℕ) (c d : Bool) → spoils front rest ≡ c → nat_le (2 ^ 128) (number_value front) ≡ d → number front ≡ true →
-    Tells n front rest (if c then fault L02 0 else (if d then fault L03 0 else piece n (Some (kinds.Number (number_value front)))))
-number_tells n front rest true d e f h = tt
-number_tells n front rest false true e f h = tt
-number_tells n front rest false false e f h = (refl, ((h, refl), (e, under (2 ^ 128) (number_value front) f)))
+over : (n x : ℕ) → nat_le n x ≡ true → n ≤ x
+over n x h = grind (arith, nat_tests)
 
-text_tells : (n : ℕ) (front rest : List ℕ) (c : Bool) (high : Option ℕ) → starts (λ b. nat_eq b 34) rest ≡ c → first_high front ≡ high → text front ≡ true →
-    Tells n front rest (if c then fault L04 0 else text_end n high)
-text_tells n front rest true high e f h = tt
-text_tells n front rest false (Some at) e f h = tt
-text_tells n front rest false None e f h = (refl, (h, (f, e)))
+number_tells : (ticked : Bool) (bytes : List ℕ) (n : ℕ) → IsLongest (allowed ticked) bytes n → (c d : Bool) → spoils (take n bytes) (drop n bytes) ≡ c → nat_le (2 ^ 128) (number_value (take n bytes)) ≡ d →
+    number (take n bytes) ≡ true → Tells ticked bytes n (if c then fault L02 0 else (if d then fault L03 0 else piece n (Some (kinds.Number (number_value (take n bytes))))))
+number_tells ticked bytes n l true d e f h = malformed n l h e
+number_tells ticked bytes n l false true e f h = large n l h e (over (2 ^ 128) (number_value (take n bytes)) f)
+number_tells ticked bytes n l false false e f h = (refl, ((h, refl), (e, under (2 ^ 128) (number_value (take n bytes)) f)))
+
+text_tells : (ticked : Bool) (bytes : List ℕ) (n : ℕ) → IsLongest (allowed ticked) bytes n → (c : Bool) (high : Option ℕ) → starts is_quote (drop n bytes) ≡ c → first_high (take n bytes) ≡ high →
+    text (take n bytes) ≡ true → Tells ticked bytes n (if c then fault L04 0 else text_end n high)
+text_tells ticked bytes n l true high e f h = unended n l h e
+text_tells ticked bytes n l false (Some at) e f h = within n at l h e f
+text_tells ticked bytes n l false None e f h = (refl, (h, (f, e)))
 
 none_left : (ticked : Bool) → (false || (false || (false || (false || (false || ((if ticked then false else false) || false)))))) ≡ true → ⊥
 none_left true h = cc
 none_left false h = cc
 
-seven : (n : ℕ) (front rest : List ℕ) (ticked a b c d e f : Bool) (m : Option Mark) → space front ≡ a → comment front ≡ b → word front ≡ c → number front ≡ d → text front ≡ e → character front ≡ f → mark_of front ≡ m →
-    (a || (b || (c || (d || (e || ((if ticked then false else f) || is_some m)))))) ≡ true →
-    Tells n front rest (if a then piece n None else (if b then piece n None else (if c then piece n (Some (word_kind (reserved_of front))) else (if d then number_piece n front rest
-    else (if e then text_piece n front rest else (if f then piece n (Some kinds.Character) else mark_piece n m))))))
-seven n front rest ticked true b c d e f m ha hb hc hd he hf hm h = (refl, (inl ha, tt))
-seven n front rest ticked false true c d e f m ha hb hc hd he hf hm h = (refl, (inr hb, tt))
-seven n front rest ticked false false true d e f m ha hb hc hd he hf hm h = word_tells n front rest (reserved_of front) refl hc
-seven n front rest ticked false false false true e f m ha hb hc hd he hf hm h = number_tells n front rest (spoils front rest) (nat_le (2 ^ 128) (number_value front)) refl refl hd
-seven n front rest ticked false false false false true f m ha hb hc hd he hf hm h = text_tells n front rest (starts (λ b. nat_eq b 34) rest) (first_high front) refl refl he
-seven n front rest ticked false false false false false true m ha hb hc hd he hf hm h = (refl, (hf, tt))
-seven n front rest ticked false false false false false false (Some mark) ha hb hc hd he hf hm h = (refl, (hm, tt))
-seven n front rest ticked false false false false false false None ha hb hc hd he hf hm h = absurd (none_left ticked h)
+seven : (ticked : Bool) (bytes : List ℕ) (n : ℕ) → IsLongest (allowed ticked) bytes n → (a b c d e f : Bool) (m : Option Mark) → space (take n bytes) ≡ a → comment (take n bytes) ≡ b → word (take n bytes) ≡ c → number (take n bytes) ≡ d →
+    text (take n bytes) ≡ e → character (take n bytes) ≡ f → mark_of (take n bytes) ≡ m → (a || (b || (c || (d || (e || ((if ticked then false else f) || is_some m)))))) ≡ true →
+    Tells ticked bytes n (if a then piece n None else (if b then piece n None else (if c then piece n (Some (word_kind (reserved_of (take n bytes)))) else (if d then number_piece n (take n bytes) (drop n bytes)
+    else (if e then text_piece n (take n bytes) (drop n bytes) else (if f then piece n (Some kinds.Character) else mark_piece n m))))))
+seven ticked bytes n l true b c d e f m ha hb hc hd he hf hm h = (refl, (inl ha, tt))
+seven ticked bytes n l false true c d e f m ha hb hc hd he hf hm h = (refl, (inr hb, tt))
+seven ticked bytes n l false false true d e f m ha hb hc hd he hf hm h = word_tells ticked bytes n (reserved_of (take n bytes)) refl hc
+seven ticked bytes n l false false false true e f m ha hb hc hd he hf hm h = number_tells ticked bytes n l (spoils (take n bytes) (drop n bytes)) (nat_le (2 ^ 128) (number_value (take n bytes))) refl refl hd
+seven ticked bytes n l false false false false true f m ha hb hc hd he hf hm h = text_tells ticked bytes n l (starts is_quote (drop n bytes)) (first_high (take n bytes)) refl refl he
+seven ticked bytes n l false false false false false true m ha hb hc hd he hf hm h = (refl, (hf, tt))
+seven ticked bytes n l false false false false false false (Some mark) ha hb hc hd he hf hm h = (refl, (hm, tt))
+seven ticked bytes n l false false false false false false None ha hb hc hd he hf hm h = absurd (none_left ticked h)
 
-pub judged_tells : (ticked : Bool) (n : ℕ) (front rest : List ℕ) →
-    (space front || (comment front || (word front || (number front || (text front || ((if ticked then false else character front) || is_some (mark_of front))))))) ≡ true → Tells n front rest (judged n front rest)
+pub judged_tells : (ticked : Bool) (bytes : List ℕ) (n : ℕ) → IsLongest (allowed ticked) bytes n → Tells ticked bytes n (judged n (take n bytes) (drop n bytes))
 unfolding judged
-judged_tells ticked n front rest h =
-    seven n front rest ticked (space front) (comment front) (word front) (number front) (text front) (character front) (mark_of front) refl refl refl refl refl refl refl h
+judged_tells ticked bytes n l =
+    let front : List ℕ = take n bytes in
+    seven ticked bytes n l (space front) (comment front) (word front) (number front) (text front) (character front) (mark_of front) refl refl refl refl refl refl refl l.passes
 
 -- the other way round, by the kind
 
@@ -160,7 +164,7 @@ number_sound n v front rest e h =
     ∙ ap (λ v. if nat_le (2 ^ 128) v then fault L03 0 else piece n (Some (kinds.Number v))) e
     ∙ ap (λ c. if c then fault L03 0 else piece n (Some (kinds.Number v))) (over_not (2 ^ 128) v h.1)
 
-text_sound : (n : ℕ) (front rest : List ℕ) → (first_high front ≡ None) × (starts (λ b. nat_eq b 34) rest ≡ false) → text_piece n front rest ≡ piece n (Some kinds.Text)
+text_sound : (n : ℕ) (front rest : List ℕ) → (first_high front ≡ None) × (starts is_quote rest ≡ false) → text_piece n front rest ≡ piece n (Some kinds.Text)
 text_sound n front rest h = ap (λ c. if c then fault L04 0 else text_end n (first_high front)) h.1 ∙ ap (text_end n) h.0
 
 pub judged_of : (n : ℕ) (front rest : List ℕ) (kind : Option TokenKind) → IsOf kind front → IsSound kind front rest → judged n front rest ≡ piece n kind

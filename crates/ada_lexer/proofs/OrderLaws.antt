@@ -2,7 +2,8 @@
 use Rattle.std.proofs.Common.{◌≡◌, ℕ, ◌+◌, ◌<◌, ◌≤◌, List, [], ◌∷◌, ◌++◌, Bool, length, None, Some, Ok, Err, Result, IfOk, false, refl, ap, sym, subst, arith, length-append}
 use Rattle.std.specs.declared.option.Option.{Option}
 use Rattle.ada_lexer.specs.Cut.{span, token_of, ticks, lexed}
-use Rattle.ada_lexer.specs.Laws.{SourcePiece, ArePieces, InOrder, joined, tokens_of}
+use Rattle.ada_lexer.specs.Laws.{InOrder}
+use Rattle.ada_lexer.specs.Joined.{SourcePiece, ArePieces, joined, tokens_of}
 use Rattle.spark_base.specs.declared.numbers.FileNo.{FileNo}
 use Rattle.ada_tree.specs.declared.token.Token.{Token}
 use Rattle.ada_tree.specs.declared.token.TokenKind.{TokenKind}
@@ -20,12 +21,12 @@ put : (file : FileNo) (source : List ℕ) (at len : ℕ) (kind : Option TokenKin
 put file source at len None ts h w k = lower file source at (at + len) ts (omega arith) k
 put file source at len (Some kind) ts h w k = (record { after = omega arith; some = omega arith; within = w; spanned = refl }, k)
 
-in_order : (file : FileNo) (source : List ℕ) (at : ℕ) (ticked : Bool) (ps : List SourcePiece) → at + length (joined ps) ≤ length source → ArePieces ticked ps → InOrder file source at (tokens_of file source at ps)
+in_order : (file : FileNo) (source : List ℕ) (at : ℕ) (ticked : Bool) (ps : List SourcePiece) → at + length (joined ps []) ≤ length source → ArePieces ticked ps [] → InOrder file source at (tokens_of file source at ps)
 in_order file source at ticked [] w h = tt
 in_order file source at ticked (p ∷ ps) w h =
-    let n : length (p.bytes ++ joined ps) ≡ length p.bytes + length (joined ps) = length-append p.bytes (joined ps) in
+    let n : length (p.bytes ++ joined ps []) ≡ length p.bytes + length (joined ps []) = length-append p.bytes (joined ps []) in
     subst (InOrder file source at) (first_token file source at (length p.bytes) p.bytes p.kind ps refl)
-    (put file source at (length p.bytes) p.kind (tokens_of file source (at + length p.bytes) ps) (some_bytes ticked p (joined ps) h.0) (omega arith)
+    (put file source at (length p.bytes) p.kind (tokens_of file source (at + length p.bytes) ps) (some_bytes ticked p (joined ps []) h.0) (omega arith)
     (in_order file source (at + length p.bytes) (ticks ticked p.kind) ps (omega arith) h.1))
 
 pub tokens_in_order : (file : FileNo) (source : List ℕ) → IfOk (lexed file source) (InOrder file source 0)
@@ -35,5 +36,5 @@ tokens_in_order file source = by (lexed file source) refl
     by (Err f) e = tt
     by (Ok ts) e =
         let c = (lexed_cut file source ts e).1 in
-        let n : length (joined c.pieces) ≡ length source = ap length c.whole in
+        let n : length (joined c.pieces []) ≡ length source = ap length c.whole in
         subst (InOrder file source 0) (sym c.theirs) (in_order file source 0 false c.pieces (omega arith) c.each)

@@ -37,6 +37,13 @@ scaled base digits exponent = value_from base 0 digits * base ^ value_from 10 0 
 abbrev pub is_hash : ℕ → Bool
 is_hash b = nat_eq b 35
 
+abbrev pub is_quote : ℕ → Bool
+is_quote b = nat_eq b 34
+
+-- a byte outside ASCII
+abbrev pub is_high : ℕ → Bool
+is_high b = nat_lt 127 b
+
 -- the value of a number with a base, by what stands before its first # and after it
 abbrev pub based_value : List ℕ → List ℕ → ℕ
 based_value base rest = scaled (base_of (value_from 10 0 base)) (take (before is_hash rest) rest) (drop (before is_hash rest) rest)
@@ -63,7 +70,7 @@ spoils front (b ∷ bs) =
 -- the place of the first byte above 127
 abbrev pub first_high : List ℕ → Option ℕ
 first_high [] = None
-first_high (b ∷ bs) = if nat_lt 127 b then Some 0 else (elim (first_high bs) [ Some n ↦ Some (n + 1) | None ↦ None ])
+first_high (b ∷ bs) = if is_high b then Some 0 else (elim (first_high bs) [ Some n ↦ Some (n + 1) | None ↦ None ])
 
 -- a refusal so many bytes on
 abbrev pub fault : {A : Type 0} → Code → ℕ → Result A Fault
@@ -93,7 +100,7 @@ text_end n None = piece n (Some kinds.Text)
 -- a text, unless a quote stands behind it: then its line does not end it
 abbrev pub text_piece : ℕ → List ℕ → List ℕ → Result Piece Fault
 text_piece n front rest =
-    if starts (λ b. nat_eq b 34) rest then fault L04 0 else text_end n (first_high front)
+    if starts is_quote rest then fault L04 0 else text_end n (first_high front)
 
 -- a mark
 abbrev pub mark_piece : ℕ → Option Mark → Result Piece Fault
@@ -110,7 +117,7 @@ judged n front rest =
 
 -- what stands at the front, by the length of the longest piece there
 abbrev pub cut_here : List ℕ → Option ℕ → Result Piece Fault
-cut_here bytes None = if starts (λ b. nat_lt 127 b) bytes then fault L01 0 else fault L04 0
+cut_here bytes None = if starts is_high bytes then fault L01 0 else fault L04 0
 cut_here bytes (Some n) = judged n (take n bytes) (drop n bytes)
 
 -- the piece at the front; `ticked`: a tick is a mark here

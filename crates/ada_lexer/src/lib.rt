@@ -16,5 +16,8 @@ mod scan;
 #[cfg(test)]
 mod tests;
 
-pub use laws::{longest_fronts, number_parts, number_values, pieces_joined, tokens_in_order};
+pub use laws::{
+    longest_fronts, number_parts, number_values, pieces_joined, refusals_behind_pieces,
+    tokens_in_order,
+};
 pub use lexing::{LIMIT, lex};

@@ -3,7 +3,8 @@ use Rattle.std.specs.Prelude.{◌≡◌, ℕ, ◌<◌, true, List, [], ◌∷◌
 use Rattle.spark_base.specs.declared.numbers.StmtNo.{StmtNo}
 use Rattle.core_form.specs.Code.{Code, Then, code_of}
 use Rattle.first_lower.specs.Known.{Each}
-use Rattle.core_form.specs.Added.{AreFineNodes, KeepsTrees}
+use Rattle.core_form.specs.Added.{KeepsTrees}
+use Rattle.core_form.specs.Fine.{AreFineNodes}
 use Rattle.core_form.specs.declared.build.Nodes.{Nodes}
 use Rattle.core_form.specs.declared.code.Place.{Place}
 

@@ -1,5 +1,5 @@
 ghost use Rattle.std.specs.Prelude.{◌≡◌, ◌∷◌, ◌+◌, ◌++◌, ◌<◌, ◌^◌, [], pos, IfOk, IfSome, OnOk, drop, length};
-ghost use Rattle.core_form.specs.Added.{AreFineNodes};
+ghost use Rattle.core_form.specs.Fine.{AreFineNodes};
 ghost use Rattle.core_form.specs.Code.{Assign, Constant, Skip, code_of, expr_of};
 ghost use Rattle.first_lower.specs.Known.{Each, KnownWord, KnownSum, KnownTest, KnownLine};
 ghost use Rattle.first_lower.specs.Levels.{Reaches, IsWithin, closed, codes_after, codes_of, ended, ends, levels_after, levels_of, main_of, turned};

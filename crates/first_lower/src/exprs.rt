@@ -1,6 +1,7 @@
 ghost use Rattle.std.specs.Prelude.{◌≡◌, ◌∷◌, ◌+◌, ◌<◌, ◌^◌, [], true, Some, All, IfOk, OnOk, position, length, slice_get};
 ghost use Rattle.std.specs.Str.{bytes_eq};
-ghost use Rattle.core_form.specs.Added.{AreFineNodes, KeepsTrees};
+ghost use Rattle.core_form.specs.Added.{KeepsTrees};
+ghost use Rattle.core_form.specs.Fine.{AreFineNodes};
 ghost use Rattle.core_form.specs.Code.{And, Load, Nothing, Operation, expr_of};
 ghost use Rattle.core_form.specs.declared.code.CoreOp.TheVariants as op;
 ghost use Rattle.first_lower.specs.Known.{KnownWord, KnownPrimary, KnownTerm, KnownSum, KnownTest};

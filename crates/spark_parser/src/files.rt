@@ -7,6 +7,7 @@ ghost use Rattle.ada_grammar.specs.Phrases as phrases;
 ghost use Rattle.ada_grammar.specs.Reading.{Awaits, point};
 ghost use Rattle.ada_grammar.specs.Standing.{Forth, Grows, Holds};
 ghost use Rattle.ada_tree.specs.Forms.{file_form};
+ghost use Rattle.ada_tree.specs.Tree.{IsOrdered};
 ghost use Rattle.ada_tree.specs.declared.forms.FileForm.TheVariants as forms;
 ghost use Rattle.spark_parser.specs.Files.{AddsUnits, FindsFile, FindsItem};
 
@@ -182,6 +183,7 @@ pub fn file(
     cursor: Cursor,
 ) -> Result<Cursor, Fault>
     requires at { cursor.at ≤ length (lexemes tokens.now) }
+    requires ordered { IsOrdered units.old }
     ensures { FindsFile (lexemes tokens.now) cursor units.old units.new result }
 {
     let mut so_far = Progress {
