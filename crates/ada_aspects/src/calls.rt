@@ -1,9 +1,10 @@
-ghost use Rattle.std.specs.Prelude.{◌≤◌, length};
+ghost use Rattle.std.specs.Prelude.{◌≤◌, length, IfOk};
 ghost use Rattle.ada_grammar.specs.Answer.{AnswersAspects};
-ghost use Rattle.ada_grammar.specs.Grammar as parts;
+ghost use Rattle.ada_grammar.specs.Parts as parts;
 ghost use Rattle.ada_grammar.specs.Limits.{outermost};
 ghost use Rattle.ada_grammar.specs.Phrases as phrases;
 ghost use Rattle.ada_grammar.specs.Standing.{Grows};
+ghost use Rattle.ada_tree.specs.Tree.{IsOrdered};
 
 use crate::readers;
 use ada_grammar::{Children, Cursor, Nesting, phase_fault};
@@ -23,7 +24,9 @@ pub fn read_aspects(
     at: usize,
 ) -> Result<(Items<AspectNo>, usize), PhaseFault>
     requires at { at ≤ length tokens.now.list }
+    requires ordered { IsOrdered units.old }
     ensures reads { AnswersAspects (parts.Aspects phrases.none) (outermost 0) tokens.now at units.new result }
+    ensures ordered { IfOk result (λ _. IsOrdered units.new) }
     ensures grows { Grows units.old units.new }
 {
     let cursor = Cursor {

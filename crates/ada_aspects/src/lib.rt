@@ -4,7 +4,5 @@
 
 mod calls;
 pub mod readers;
-#[cfg(test)]
-mod tests;
 
 pub use calls::read_aspects;

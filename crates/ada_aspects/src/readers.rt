@@ -1,5 +1,5 @@
 ghost use Rattle.std.specs.Prelude.{◌≡◌, ◌≤◌, length, IfOk};
-ghost use Rattle.ada_grammar.specs.Grammar as parts;
+ghost use Rattle.ada_grammar.specs.Parts as parts;
 ghost use Rattle.ada_grammar.specs.Lexemes.{lexeme, lexemes, text_of};
 ghost use Rattle.ada_grammar.specs.Phrases as phrases;
 ghost use Rattle.ada_grammar.specs.Standing.{Finds, Forth, Grows, Holds, Skips};
@@ -703,14 +703,8 @@ fn initializes_definition(
         return Ok(behind_keyword);
     }
     if let Some((_, behind_opening)) = accept(tokens, cursor, Class::Mark(Mark::Open))? {
-        return elements(
-            alloc,
-            units,
-            tokens,
-            behind_opening,
-            Listing::Initializations,
-            into,
-        );
+        let listing = Listing::Initializations;
+        return elements(alloc, units, tokens, behind_opening, listing, into);
     }
     let (name, behind_name) = expect(tokens, cursor, Class::Word)?;
     let mut item = Children::new(alloc);

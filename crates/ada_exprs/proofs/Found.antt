@@ -3,8 +3,9 @@ use Rattle.std.proofs.Common.{Bool, ◌≡◌, arith, ◌∙◌, ap, sym, subst,
 use Rattle.std.specs.Result.{IsErrAnd}
 use Rattle.ada_tree.specs.declared.expressions.LogicalOperator.{LogicalOperator}
 use Rattle.ada_grammar.specs.declared.tokens.Fault.{Fault}
-use Rattle.ada_grammar.specs.Grammar.{Part, Suffixes, RestOfExpr, Begun, Chain, Gives, Call, Rest}
-use Rattle.ada_grammar.specs.Reading.{Point, Awaits, point, Fails, Answers}
+use Rattle.ada_grammar.specs.Parts.{Part, Suffixes, RestOfExpr, Begun, Chain, Gives, Call, Rest}
+use Rattle.ada_grammar.specs.Fronts.{Point}
+use Rattle.ada_grammar.specs.Reading.{Awaits, point, Fails, Answers}
 use Rattle.ada_exprs.specs.Steps.{Opens, IsOpened, Links, IsLinked, MaybeSuffixed, IsSuffixed, Suffixed}
 use Rattle.spark_base.specs.declared.numbers.ExprNo.{ExprNo}
 use Rattle.spark_base.specs.declared.numbers.Span.{Span}

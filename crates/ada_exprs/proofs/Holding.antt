@@ -9,7 +9,7 @@ use Rattle.ada_grammar.specs.declared.tokens.Fault.{Fault}
 use Rattle.ada_grammar.specs.Lexemes.{Lexeme}
 use Rattle.ada_grammar.specs.Phrases.{Tree, Children, with_expr}
 use Rattle.ada_grammar.specs.Built.{phrase, trees, tree_at}
-use Rattle.ada_grammar.specs.Grammar.{Part}
+use Rattle.ada_grammar.specs.Parts.{Part}
 use Rattle.ada_grammar.specs.Reading.{Done, Fails}
 use Rattle.ada_grammar.specs.Standing.{ExprRef, Holds, Stands, expression, nowhere, Forth, FoundExpr, FindsExpr}
 

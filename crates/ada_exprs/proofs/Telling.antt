@@ -5,7 +5,7 @@ use Rattle.ada_grammar.specs.declared.nodes.Built.{Built}
 use Rattle.ada_grammar.specs.declared.tokens.Cursor.{Cursor}
 use Rattle.ada_grammar.specs.declared.tokens.Fault.{Fault}
 use Rattle.ada_grammar.specs.Answer.{HasRead, IsAnswer}
-use Rattle.ada_grammar.specs.Grammar.{Part}
+use Rattle.ada_grammar.specs.Parts.{Part}
 use Rattle.ada_grammar.specs.Lexemes.{lexemes}
 use Rattle.ada_grammar.specs.Phrases.{Tree}
 use Rattle.ada_grammar.specs.Reading.{Answers, Done, Fails}

@@ -8,7 +8,7 @@ use Rattle.ada_grammar.specs.declared.nodes.Built.{Built}
 use Rattle.ada_grammar.specs.Lexemes.{Lexeme}
 use Rattle.ada_grammar.specs.Phrases.{Phrase, Tree}
 use Rattle.ada_grammar.specs.Built.{phrase}
-use Rattle.ada_grammar.specs.Grammar.{Part, RestOfExpr, Opened, Chain, Begun, Suffixes, Gives, Rest, Call}
+use Rattle.ada_grammar.specs.Parts.{Part, RestOfExpr, Opened, Chain, Begun, Suffixes, Gives, Rest, Call}
 use Rattle.ada_grammar.specs.Reading.{point, Awaits, Fails}
 
 -- From the cursor to the next the words of an operator stand; whatever stands before them, its right operand follows

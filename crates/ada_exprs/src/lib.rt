@@ -7,7 +7,5 @@ mod calls;
 mod operators;
 pub mod parts;
 pub mod readers;
-#[cfg(test)]
-mod tests;
 
 pub use calls::{read_drange, read_expr, read_name, read_simple};

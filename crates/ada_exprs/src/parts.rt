@@ -2,8 +2,8 @@
 //! behind what was read before it.
 ghost use Rattle.std.specs.Prelude.{IfOk, ◌≤◌, length, List, true};
 ghost use Rattle.ada_grammar.specs.Built.{trees};
-ghost use Rattle.ada_grammar.specs.Grammar as parts;
-ghost use Rattle.ada_grammar.specs.Grammar.{Part};
+ghost use Rattle.ada_grammar.specs.Parts as parts;
+ghost use Rattle.ada_grammar.specs.Parts.{Part};
 ghost use Rattle.ada_grammar.specs.Lexemes.{Lexeme, lexeme, lexemes};
 ghost use Rattle.ada_grammar.specs.Phrases as phrases;
 ghost use Rattle.ada_grammar.specs.Reading.{Answers};

@@ -1,7 +1,7 @@
 ghost use Rattle.std.specs.Prelude.{◌≡◌, ◌<◌, ◌≤◌, [], ◌∷◌, true, length, IfOk, OnErr};
 ghost use Rattle.ada_exprs.specs.Steps.{MaybeSuffixed, Suffixed};
 ghost use Rattle.ada_grammar.specs.Built.{AreBelow, Extends, phrase, trees, trees_at};
-ghost use Rattle.ada_grammar.specs.Grammar as parts;
+ghost use Rattle.ada_grammar.specs.Parts as parts;
 ghost use Rattle.ada_grammar.specs.Lexemes.{lexeme, lexemes};
 ghost use Rattle.ada_grammar.specs.Phrases as phrases;
 ghost use Rattle.ada_grammar.specs.Reading.{Answers};

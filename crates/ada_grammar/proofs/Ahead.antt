@@ -28,7 +28,8 @@ ahead tokens list at t same h e =
 pub within_lexemes : (tokens : Tokens) (list : List Token) (at : ℕ) → list ≡ tokens.list → at < length list → at < length (lexemes tokens)
 within_lexemes tokens list at same h = omega (arith, h, lexemes_length tokens, ap (λ (z : List Token). length z) same)
 
-heads : (t u : Lexeme) (a b : List Lexeme) → t ∷ a ≡ u ∷ b → t ≡ u
+-- two lists that are one begin alike
+pub heads : (t u : Lexeme) (a b : List Lexeme) → t ∷ a ≡ u ∷ b → t ≡ u
 heads t u a b e = cc
 
 pub other_first : (c : Class) (t : Lexeme) (r further : List Lexeme) → r ≡ t ∷ further → is_in c (sort t) ≡ false → NotFirst c r

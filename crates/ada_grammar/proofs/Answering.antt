@@ -10,8 +10,9 @@ use Rattle.ada_grammar.specs.declared.nodes.Built.{Built}
 use Rattle.ada_grammar.specs.Lexemes.{Lexeme}
 use Rattle.ada_grammar.specs.Phrases.{Tree, Phrase}
 use Rattle.ada_grammar.specs.Built.{trees, tree_at, phrase, Extends}
-use Rattle.ada_grammar.specs.Grammar.{Part, Body, Never, Gives, Take, Call, Rest, Or, When}
-use Rattle.ada_grammar.specs.Reading.{Point, point, Awaits, Bars, Barred, Fails, Answers}
+use Rattle.ada_grammar.specs.Parts.{Part, Body, Never, Gives, Take, Call, Rest, Or, When}
+use Rattle.ada_grammar.specs.Fronts.{Point, Bars}
+use Rattle.ada_grammar.specs.Reading.{point, Awaits, Barred, Fails, Answers}
 use Rattle.ada_grammar.specs.Taking.{IsBarred, Misses, Passes}
 use Rattle.ada_grammar.proofs.Steps.{good, ends_in, stuck, tail, barred, barred_last, stopped, unseen, after, without, is_never}
 use Rattle.ada_grammar.proofs.Begins.{inhabited}

@@ -41,7 +41,10 @@ use Rattle.ada_tree.specs.declared.identifiers.AspectName.{AspectName}
 use Rattle.ada_tree.specs.declared.identifiers.AspectName.TheVariants as aspect_names
 use Rattle.ada_grammar.specs.Phrases as phrases
 use Rattle.ada_grammar.specs.Phrases.{Children, Phrase, Tree, nowhere}
-use Rattle.ada_grammar.specs.Grammar.{Part, Expr, Continued, RestOfExpr, BehindAnd, BehindOr, Opened, Begun, Chain, Rel, RestOfRel, Membership, Simple, Signed, Sums, Term, Products, Factor, Powered, Primary, Parens, Condition, Arms, InParens, NamedFrom, BehindExpr, Items, LastItem, Association, Choices, Associations, Choice, Name, Suffixes, MayOpen, BehindTick, BehindAttribute, ValuesFrom, Values, ArgumentsFrom, Arguments, Argument, Drange, SubtypeRange, UnitName, Points, Indication, IndicationFrom, Balanced, SkippedTokens, Pragma, Aspects, OptionalAspects, BehindWith, MoreAspects, Aspect, AspectOf, Defined, Atomic, SkippedAspect, DefinitionOf, NullOrItems, ItemsFrom, MoreItems, GlobalDefinition, InGlobal, ModesFrom, MoreModes, DependsDefinition, Elements, MoreElements, Element, Dependency, Refinement, Initialization, RefinedDefinition, InitializesDefinition, PartOf, StatesDefinition, InStates, MoreStates, State, StateWithOptions, Closing, Names, BehindNames, Object, ObjectFrom, Component, Formal, FormalMark, LocalDeclarations, LocalDeclaration, UnitNames, MoreUnitNames, TypeDefinition, Literals, MoreLiterals, RangeType, ArrayType, Components, MoreComponents, Statements, MoreStatements, Statement, NamedStatement, BehindName, Labelled, If, MoreArms, EndIf, Case, MoreAlternatives, Alternative, MoreChoices, While, For, ForRange, LoopBody, Declare, BlockBody, EndOfStatement, Exit, Return, ProperBody, EndOfDeclaration, EndOfUnit, Formals, MoreFormals, Procedure, Function, FunctionResult, BehindHead, NullOrValue, AnyCompletion, ValueOrBody, Value, SubprogramBody, Task, TaskNamed, TaskDefinition, TaskInBody, TaskBody, Protected, ProtectedNamed, Operations, PrivateItems, Operation, Entry, ProtectedInBody, ProtectedBody, OperationBodies, OperationBody, EntryBody, Barrier, Declarations, Declaration, TaskIn, ProtectedIn, MainUnit, PackageUnit, SpecUnit, BodyUnit, File, InFile, FileItem, Body, Never, Gives, Take, Call, Rest, Or, When, word, mark, rule, Fits, gives, take, call, rest, left, right, yes, no, Spells, first_of, empties_of}
+use Rattle.ada_grammar.specs.Parts.{Part, Expr, Continued, RestOfExpr, BehindAnd, BehindOr, Opened, Begun, Chain, Rel, RestOfRel, Membership, Simple, Signed, Sums, Term, Products, Factor, Powered, Primary, Parens, Condition, Arms, InParens, NamedFrom, BehindExpr, Items, LastItem, Association, Choices, Associations, Choice, Name, Suffixes, MayOpen, BehindTick, BehindAttribute, ValuesFrom, Values, ArgumentsFrom, Arguments, Argument, Drange, SubtypeRange, UnitName, Points, Indication, IndicationFrom, Balanced, SkippedTokens, Pragma, Aspects, OptionalAspects, BehindWith, MoreAspects, Aspect, AspectOf, Defined, Atomic, SkippedAspect, DefinitionOf, NullOrItems, ItemsFrom, MoreItems, GlobalDefinition, InGlobal, ModesFrom, MoreModes, DependsDefinition, Elements, MoreElements, Element, Dependency, Refinement, Initialization, RefinedDefinition, InitializesDefinition, PartOf, StatesDefinition, InStates, MoreStates, State, StateWithOptions, Closing, Names, BehindNames, Object, ObjectFrom, Component, Formal, FormalMark, LocalDeclarations, LocalDeclaration, UnitNames, MoreUnitNames, TypeDefinition, Literals, MoreLiterals, RangeType, ArrayType, Components, MoreComponents, Statements, MoreStatements, Statement, NamedStatement, BehindName, Labelled, If, MoreArms, EndIf, Case, MoreAlternatives, Alternative, MoreChoices, While, For, ForRange, LoopBody, Declare, BlockBody, EndOfStatement, Exit, Return, ProperBody, EndOfDeclaration, EndOfUnit, Formals, MoreFormals, Procedure, Function, FunctionResult, BehindHead, NullOrValue, AnyCompletion, ValueOrBody, Value, SubprogramBody, Task, TaskNamed, TaskDefinition, TaskInBody, TaskBody, Protected, ProtectedNamed, Operations, PrivateItems, Operation, Entry, ProtectedInBody, ProtectedBody, OperationBodies, OperationBody, EntryBody, Barrier, Declarations, Declaration, TaskIn, ProtectedIn, MainUnit, PackageUnit, SpecUnit, BodyUnit, File, InFile, FileItem, Body, Never, Gives, Take, Call, Rest, Or, When, word, mark}
+use Rattle.ada_grammar.specs.Grammar.{rule}
+use Rattle.ada_grammar.specs.Spelling.{Fits, gives, take, call, rest, left, right, yes, no, Spells}
+use Rattle.ada_grammar.proofs.Firsts.{first_of, empties_of}
 use Rattle.ada_grammar.proofs.EverySort.{all_sorts, and_left, and_right, by_sort, word_self, mark_self}
 
 -- if the first test holds, the second does

@@ -1,5 +1,5 @@
 -- Every sort, and what a test of all of them says.
-use Rattle.std.proofs.Common.{◌≡◌, ℕ, Bool, true, false, ◌&&◌, List, [], ◌∷◌, refl, sym, ◌∙◌, ap, subst, zero, suc, ◌<◌, ◌+◌, length, get_or, arith, lit<}
+use Rattle.std.proofs.Common.{◌≡◌, ℕ, Bool, true, false, ◌&&◌, List, [], ◌∷◌, refl, sym, ◌∙◌, ap, subst, zero, suc, ◌<◌, ◌+◌, length, get_or, nat_eq, arith, lit<}
 use Rattle.std.proofs.lemmas.Bool.{eqb-true}
 use Rattle.ada_tree.specs.declared.token.Mark.{Mark}
 use Rattle.ada_tree.specs.declared.token.Mark.TheVariants as marks
@@ -9,7 +9,8 @@ use Rattle.ada_tree.specs.declared.identifiers.WordRole.{WordRole}
 use Rattle.ada_tree.specs.declared.identifiers.WordRole.TheVariants as roles
 use Rattle.ada_grammar.specs.declared.tokens.Class.{Class}
 use Rattle.ada_grammar.specs.declared.tokens.Class.TheVariants as classes
-use Rattle.ada_grammar.specs.Sorts.{Sort, WordSort, NumberSort, TextSort, CharacterSort, ReservedSort, MarkSort, word_number, mark_number, class_number, same_class, same_word, same_mark}
+use Rattle.ada_grammar.specs.Numbers.{word_number, mark_number, same_word, same_mark}
+use Rattle.ada_grammar.specs.Sorts.{Sort, WordSort, NumberSort, TextSort, CharacterSort, ReservedSort, MarkSort}
 
 abbrev pub sorts : List Sort
 sorts = WordSort roles.Ordinary ∷ WordSort roles.Mode ∷ WordSort roles.True ∷ NumberSort ∷ TextSort ∷ CharacterSort ∷ ReservedSort words.Abort ∷ ReservedSort words.Abs ∷ ReservedSort words.Abstract ∷ ReservedSort words.Accept ∷ ReservedSort words.Access ∷ ReservedSort words.Aliased ∷ ReservedSort words.All ∷ ReservedSort words.And ∷ ReservedSort words.Array ∷ ReservedSort words.At ∷ ReservedSort words.Begin ∷ ReservedSort words.Body ∷ ReservedSort words.Case ∷ ReservedSort words.Constant ∷ ReservedSort words.Declare ∷ ReservedSort words.Delay ∷ ReservedSort words.Delta ∷ ReservedSort words.Digits ∷ ReservedSort words.Do ∷ ReservedSort words.Else ∷ ReservedSort words.Elsif ∷ ReservedSort words.End ∷ ReservedSort words.Entry ∷ ReservedSort words.Exception ∷ ReservedSort words.Exit ∷ ReservedSort words.For ∷ ReservedSort words.Function ∷ ReservedSort words.Generic ∷ ReservedSort words.Goto ∷ ReservedSort words.If ∷ ReservedSort words.In ∷ ReservedSort words.Interface ∷ ReservedSort words.Is ∷ ReservedSort words.Limited ∷ ReservedSort words.Loop ∷ ReservedSort words.Mod ∷ ReservedSort words.New ∷ ReservedSort words.Not ∷ ReservedSort words.Null ∷ ReservedSort words.Of ∷ ReservedSort words.Or ∷ ReservedSort words.Others ∷ ReservedSort words.Out ∷ ReservedSort words.Overriding ∷ ReservedSort words.Package ∷ ReservedSort words.Pragma ∷ ReservedSort words.Private ∷ ReservedSort words.Procedure ∷ ReservedSort words.Protected ∷ ReservedSort words.Raise ∷ ReservedSort words.Range ∷ ReservedSort words.Record ∷ ReservedSort words.Rem ∷ ReservedSort words.Renames ∷ ReservedSort words.Requeue ∷ ReservedSort words.Return ∷ ReservedSort words.Reverse ∷ ReservedSort words.Select ∷ ReservedSort words.Separate ∷ ReservedSort words.Some ∷ ReservedSort words.Subtype ∷ ReservedSort words.Synchronized ∷ ReservedSort words.Tagged ∷ ReservedSort words.Task ∷ ReservedSort words.Terminate ∷ ReservedSort words.Then ∷ ReservedSort words.Type ∷ ReservedSort words.Until ∷ ReservedSort words.Use ∷ ReservedSort words.When ∷ ReservedSort words.While ∷ ReservedSort words.With ∷ ReservedSort words.Xor ∷ MarkSort marks.Ampersand ∷ MarkSort marks.Tick ∷ MarkSort marks.Open ∷ MarkSort marks.Close ∷ MarkSort marks.Star ∷ MarkSort marks.Plus ∷ MarkSort marks.Comma ∷ MarkSort marks.Minus ∷ MarkSort marks.Dot ∷ MarkSort marks.Slash ∷ MarkSort marks.Colon ∷ MarkSort marks.Semicolon ∷ MarkSort marks.Less ∷ MarkSort marks.Equal ∷ MarkSort marks.Greater ∷ MarkSort marks.Bar ∷ MarkSort marks.Arrow ∷ MarkSort marks.Dots ∷ MarkSort marks.Power ∷ MarkSort marks.Becomes ∷ MarkSort marks.NotEqual ∷ MarkSort marks.AtLeast ∷ MarkSort marks.AtMost ∷ MarkSort marks.OpenLabel ∷ MarkSort marks.CloseLabel ∷ MarkSort marks.Box ∷ []
@@ -26,6 +27,32 @@ rank TextSort = 4
 rank CharacterSort = 5
 rank (ReservedSort a) = 6 + word_number a
 rank (MarkSort a) = 79 + mark_number a
+
+-- classes by number
+abbrev pub class_number : Class → ℕ
+class_number classes.Word = 0
+class_number classes.Number = 1
+class_number classes.Relational = 2
+class_number classes.Adding = 3
+class_number classes.Multiplying = 4
+class_number classes.AttributeName = 5
+class_number classes.Mode = 6
+class_number classes.True = 7
+class_number classes.Statement = 8
+class_number classes.Compound = 9
+class_number classes.LocalDeclaration = 10
+class_number classes.Declaration = 11
+class_number classes.Operation = 12
+class_number classes.OperationBody = 13
+class_number classes.PrivateItem = 14
+class_number classes.FileItem = 15
+class_number classes.Enclosed = 16
+class_number classes.Skipped = 17
+class_number (classes.Reserved a) = 18 + word_number a
+class_number (classes.Mark a) = 91 + mark_number a
+
+abbrev pub same_class : Class → Class → Bool
+same_class a b = nat_eq (class_number a) (class_number b)
 
 abbrev pub classes_in_order : List Class
 classes_in_order = classes.Word ∷ classes.Number ∷ classes.Relational ∷ classes.Adding ∷ classes.Multiplying ∷ classes.AttributeName ∷ classes.Mode ∷ classes.True ∷ classes.Statement ∷ classes.Compound ∷ classes.LocalDeclaration ∷ classes.Declaration ∷ classes.Operation ∷ classes.OperationBody ∷ classes.PrivateItem ∷ classes.FileItem ∷ classes.Enclosed ∷ classes.Skipped ∷ classes.Reserved words.Abort ∷ classes.Reserved words.Abs ∷ classes.Reserved words.Abstract ∷ classes.Reserved words.Accept ∷ classes.Reserved words.Access ∷ classes.Reserved words.Aliased ∷ classes.Reserved words.All ∷ classes.Reserved words.And ∷ classes.Reserved words.Array ∷ classes.Reserved words.At ∷ classes.Reserved words.Begin ∷ classes.Reserved words.Body ∷ classes.Reserved words.Case ∷ classes.Reserved words.Constant ∷ classes.Reserved words.Declare ∷ classes.Reserved words.Delay ∷ classes.Reserved words.Delta ∷ classes.Reserved words.Digits ∷ classes.Reserved words.Do ∷ classes.Reserved words.Else ∷ classes.Reserved words.Elsif ∷ classes.Reserved words.End ∷ classes.Reserved words.Entry ∷ classes.Reserved words.Exception ∷ classes.Reserved words.Exit ∷ classes.Reserved words.For ∷ classes.Reserved words.Function ∷ classes.Reserved words.Generic ∷ classes.Reserved words.Goto ∷ classes.Reserved words.If ∷ classes.Reserved words.In ∷ classes.Reserved words.Interface ∷ classes.Reserved words.Is ∷ classes.Reserved words.Limited ∷ classes.Reserved words.Loop ∷ classes.Reserved words.Mod ∷ classes.Reserved words.New ∷ classes.Reserved words.Not ∷ classes.Reserved words.Null ∷ classes.Reserved words.Of ∷ classes.Reserved words.Or ∷ classes.Reserved words.Others ∷ classes.Reserved words.Out ∷ classes.Reserved words.Overriding ∷ classes.Reserved words.Package ∷ classes.Reserved words.Pragma ∷ classes.Reserved words.Private ∷ classes.Reserved words.Procedure ∷ classes.Reserved words.Protected ∷ classes.Reserved words.Raise ∷ classes.Reserved words.Range ∷ classes.Reserved words.Record ∷ classes.Reserved words.Rem ∷ classes.Reserved words.Renames ∷ classes.Reserved words.Requeue ∷ classes.Reserved words.Return ∷ classes.Reserved words.Reverse ∷ classes.Reserved words.Select ∷ classes.Reserved words.Separate ∷ classes.Reserved words.Some ∷ classes.Reserved words.Subtype ∷ classes.Reserved words.Synchronized ∷ classes.Reserved words.Tagged ∷ classes.Reserved words.Task ∷ classes.Reserved words.Terminate ∷ classes.Reserved words.Then ∷ classes.Reserved words.Type ∷ classes.Reserved words.Until ∷ classes.Reserved words.Use ∷ classes.Reserved words.When ∷ classes.Reserved words.While ∷ classes.Reserved words.With ∷ classes.Reserved words.Xor ∷ classes.Mark marks.Ampersand ∷ classes.Mark marks.Tick ∷ classes.Mark marks.Open ∷ classes.Mark marks.Close ∷ classes.Mark marks.Star ∷ classes.Mark marks.Plus ∷ classes.Mark marks.Comma ∷ classes.Mark marks.Minus ∷ classes.Mark marks.Dot ∷ classes.Mark marks.Slash ∷ classes.Mark marks.Colon ∷ classes.Mark marks.Semicolon ∷ classes.Mark marks.Less ∷ classes.Mark marks.Equal ∷ classes.Mark marks.Greater ∷ classes.Mark marks.Bar ∷ classes.Mark marks.Arrow ∷ classes.Mark marks.Dots ∷ classes.Mark marks.Power ∷ classes.Mark marks.Becomes ∷ classes.Mark marks.NotEqual ∷ classes.Mark marks.AtLeast ∷ classes.Mark marks.AtMost ∷ classes.Mark marks.OpenLabel ∷ classes.Mark marks.CloseLabel ∷ classes.Mark marks.Box ∷ []

@@ -9,8 +9,9 @@ use Rattle.ada_grammar.specs.declared.tokens.Cursor.{Cursor}
 use Rattle.ada_grammar.specs.declared.tokens.Fault.{Fault}
 use Rattle.ada_grammar.specs.Lexemes.{Lexeme}
 use Rattle.ada_grammar.specs.Phrases.{Children, gives}
-use Rattle.ada_grammar.specs.Grammar.{Part, Gives, Rest}
-use Rattle.ada_grammar.specs.Reading.{Point, point, Awaits, Fails}
+use Rattle.ada_grammar.specs.Parts.{Part, Gives, Rest}
+use Rattle.ada_grammar.specs.Fronts.{Point}
+use Rattle.ada_grammar.specs.Reading.{point, Awaits, Fails}
 use Rattle.ada_grammar.specs.Standing.{Finds, Forth, Found, Holds, Skips}
 use Rattle.ada_grammar.specs.Taking.{Looks, NotFirst, IsTaken}
 use Rattle.ada_grammar.proofs.Steps.{ends_in, tail}
@@ -40,12 +41,6 @@ pub finds_last : {part inner : Part} (ts : List Lexeme) (cursor middle : Cursor)
     → Finds inner ts middle u r result → Finds part ts cursor u r result
 finds_last ts cursor middle u r (Ok end) s h check i = record { children = i.children; holds = i.holds; forward = omega (arith, i.forward, h); ends = i.ends; reads = tail s i.reads check }
 finds_last ts cursor middle u r (Err e) s h check i = refuses_last ts cursor middle e s check i
-
-pub skips_last : {part inner : Part} (ts : List Lexeme) (cursor middle : Cursor) (result : Result Cursor Fault)
-    → Awaits part (point ts cursor) (point ts middle) (Rest inner) → cursor.at ≤ middle.at → ends_in part inner ≡ true
-    → Skips inner ts middle result → Skips part ts cursor result
-skips_last ts cursor middle (Ok end) s h check i = record { forward = omega (arith, i.forward, h); ends = i.ends; reads = tail s i.reads check }
-skips_last ts cursor middle (Err e) s h check i = refuses_last ts cursor middle e s check i
 
 -- the token that was looked for is there, or is not
 pub absent : (c : Class) (of : Token → Lexeme) (ts : List Lexeme) (cursor : Cursor) {o : Option (Token × Cursor)} → Looks c of ts cursor o → o ≡ None → NotFirst c (drop cursor.at ts)

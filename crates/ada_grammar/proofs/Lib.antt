@@ -2,6 +2,7 @@ pub mod Ahead
 pub mod Answering
 pub mod Begins
 pub mod EverySort
+pub mod Firsts
 pub mod Joining
 pub mod NodeTrees
 pub mod Plain

@@ -1,9 +1,15 @@
 -- How the trees of nodes grow.
-use Rattle.std.proofs.Common.{◌≡◌, ℕ, List, [], ◌∷◌, ◌++◌, refl, sym, ◌∙◌, ap, append_assoc, append-nil, subst, ◌<◌, ◌≤◌, ◌+◌, length, get_or, arith, length-append}
+use Rattle.std.proofs.Common.{◌≡◌, ℕ, zero, suc, List, [], ◌∷◌, ◌++◌, refl, sym, ◌∙◌, ap, append_assoc, append-nil, subst, ◌<◌, ◌≤◌, ◌+◌, length, get_or, arith, length-append}
+use Rattle.std.specs.List.{All}
+use Rattle.std.proofs.lemmas.Option.{none-some, same_Some}
+use Rattle.std.proofs.lemmas.List.Elements.{All-nil, All-cons}
 use Rattle.std.proofs.Math.ListN.{get_or-append}
 use Rattle.std.proofs.Math.Seq.{get_or-append_seam}
 use Rattle.spark_base.specs.declared.numbers.ExprNo.{ExprNo}
 use Rattle.ada_tree.specs.declared.expressions.ExprNode.{ExprNode}
+use Rattle.ada_tree.specs.declared.units.Units.{Units}
+use Rattle.ada_tree.specs.Tree.{IsOrdered}
+use Rattle.ada_tree.proofs.Ordered.{Each, exprs_ordered}
 use Rattle.ada_grammar.specs.Phrases.{Tree, nothing}
 use Rattle.ada_grammar.specs.Built.{tree_at, trees_at, tree_of, trees_from, trees, AreBelow, AreOrdered, Extends, Adds}
 
@@ -50,19 +56,12 @@ ordered_append m (n ∷ ns) ms a b = (a.0, ordered_append (m + 1) ns ms a.1 (sub
 pub extends_same : (nodes : List ExprNode) → Extends nodes nodes
 extends_same nodes = record { further = []; joins = sym (append-nil nodes); ordered = tt }
 
-pub extends_equal : {old new : List ExprNode} → new ≡ old → Extends old new
-extends_equal {old} {new} e = record { further = []; joins = e ∙ sym (append-nil old); ordered = tt }
-
 pub extends_on : {a b c : List ExprNode} → Extends a b → Extends b c → Extends a c
 extends_on {a} {b} {c} x y = record {
   further = x.further ++ y.further;
   joins = y.joins ∙ (ap (λ (z : List ExprNode). z ++ y.further) x.joins ∙ append_assoc a x.further y.further);
   ordered = ordered_append (length a) x.further y.further x.ordered (subst (λ (z : ℕ). AreOrdered z y.further) (ap (λ (z : List ExprNode). length z) x.joins ∙ length-append a x.further) y.ordered);
 }
-
--- a node that is added behind its children
-pub extends_added : {old new : List ExprNode} (n : ExprNode) → new ≡ old ++ n ∷ [] → AreBelow (length old) n.exprs → Extends old new
-extends_added {old} {new} n e below = record { further = n ∷ []; joins = e; ordered = (below, tt) }
 
 trees_last : (ns : List ExprNode) (n : ExprNode) → trees (ns ++ n ∷ []) ≡ trees ns ++ tree_of (trees ns) n ∷ []
 unfolding trees
@@ -108,3 +107,24 @@ items_more {old} {new} ns n {ms} e g below =
 pub items_below : {old new : List ExprNode} (ns : List ExprNo) (n : ExprNo) {ms : List ExprNo} → ms ≡ ns ++ n ∷ [] → Extends old new → AreBelow (length (trees old)) ns → n.0 < length (trees new)
     → AreBelow (length (trees new)) ms
 items_below {old} {new} ns n {ms} e g below h = below_as (length (trees new)) ms (ns ++ n ∷ []) e (below_more ns n below (longer g) h)
+
+-- Expressions that are added keep the order of all nodes
+
+all_below : (bound : ℕ) (ns : List ExprNo) → AreBelow bound ns → All (λ (n : ExprNo). n.0 < bound) ns
+all_below bound [] h = All-nil (λ (n : ExprNo). n.0 < bound)
+all_below bound (n ∷ ns) h = All-cons (λ (n : ExprNo). n.0 < bound) n ns h.0 (all_below bound ns h.1)
+
+each_below : (first : ℕ) (ns : List ExprNode) → AreOrdered first ns → Each (λ m x. AreBelow (first + m) x.exprs) ns
+each_below first [] h m x e = absurd (none-some x e)
+each_below first (n ∷ ns) h zero x e = subst (λ (z : ExprNode). AreBelow (first + 0) z.exprs) (same_Some n x e) (subst (λ (z : ℕ). AreBelow z n.exprs) (omega arith) h.0)
+each_below first (n ∷ ns) h (suc m) x e = subst (λ (z : ℕ). AreBelow z x.exprs) (omega arith) (each_below (first + 1) ns h.1 m x e)
+
+pub extends_ordered : {u : Units} {list : List ExprNode} → Extends u.exprs list → IsOrdered u → IsOrdered (record u { exprs = list })
+extends_ordered {u} {list} g h =
+    exprs_ordered g.further g.joins h
+    (λ m x e. record {
+      exprs_below = all_below (length u.exprs + m) x.exprs (each_below (length u.exprs) g.further g.ordered m x e);
+      stmts_below = All-nil _;
+      decls_below = All-nil _;
+      aspects_below = All-nil _;
+    })

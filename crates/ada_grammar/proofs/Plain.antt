@@ -2,8 +2,10 @@
 use Rattle.std.proofs.Common.{◌≡◌, List, [], ◌∷◌, ◌++◌, refl, sym, ◌∙◌, ap, subst, append_assoc, append-nil}
 use Rattle.ada_grammar.specs.Lexemes.{Lexeme}
 use Rattle.ada_grammar.specs.Phrases.{Phrase}
-use Rattle.ada_grammar.specs.Grammar.{Part, Body, Never, Gives, Fits, gives, Spells}
-use Rattle.ada_grammar.specs.Reading.{Point, At, Awaits, Reads}
+use Rattle.ada_grammar.specs.Parts.{Part, Body, Never, Gives}
+use Rattle.ada_grammar.specs.Spelling.{Fits, gives, Spells}
+use Rattle.ada_grammar.specs.Fronts.{Point}
+use Rattle.ada_grammar.specs.Reading.{At, Awaits, Reads}
 use Rattle.ada_grammar.specs.Answer.{Longest, IsPhrase, IsRead, IsRefused}
 
 -- where the rest takes no token, the front is the longest

@@ -3,6 +3,8 @@ use Rattle.std.proofs.Common.{◌≡◌, ℕ, zero, suc, ◌<◌, List, [], ◌�
 use Rattle.std.specs.Prelude.{slice_get}
 use Rattle.std.proofs.lemmas.Option.{none-some, same_Some, slice_get_within}
 use Rattle.std.proofs.lemmas.List.{map-append}
+use Rattle.std.specs.List.{All}
+use Rattle.std.proofs.lemmas.List.Elements.{All-nil, All-cons}
 use Rattle.spark_base.specs.declared.name.Name.{Name}
 use Rattle.spark_base.specs.declared.numbers.Span.{Span}
 use Rattle.spark_base.specs.declared.numbers.ExprNo.{ExprNo}
@@ -19,11 +21,14 @@ use Rattle.ada_tree.specs.declared.aspects.AspectKind.{AspectKind}
 use Rattle.ada_tree.specs.declared.units.UnitKind.{UnitKind}
 use Rattle.ada_tree.specs.declared.units.Unit as declared_unit
 use Rattle.ada_tree.specs.declared.units.Units.{Units}
+use Rattle.ada_tree.specs.Tree as tree
+use Rattle.ada_tree.specs.Tree.{IsOrdered, counts}
+use Rattle.ada_tree.proofs.Ordered.{aspect_ordered, decl_ordered, stmt_ordered, unit_ordered}
 use Rattle.ada_grammar.specs.declared.children.Children as held
 use Rattle.ada_grammar.specs.Phrases.{OfStmt, OfDecl, OfAspect, OfUnit, Head, Tree, Root, with_all, Children, none, node_tree, with_expr, with_stmt, with_decl, with_aspect}
 use Rattle.ada_grammar.specs.Built.{trees, tree_at, written, Extends}
 use Rattle.ada_grammar.specs.Standing.{Ref, ExprRef, StmtRef, DeclRef, AspectRef, UnitRef, refs, stmt_node, decl_node, aspect_node, unit_node, node_at, IsBelow, AreUnder, Stands, nowhere, expression, over, Holds, Lengthens, Appends, Widens, Grows}
-use Rattle.ada_grammar.proofs.NodeTrees.{stays, within_on, extends_same, extends_on}
+use Rattle.ada_grammar.proofs.NodeTrees.{stays, within_on, extends_same, extends_on, extends_ordered, trees_length}
 
 -- Lists that grow
 
@@ -38,9 +43,6 @@ get_last (y ∷ xs) x = get_last xs x
 
 pub lengthens_same : {A : Type 0} (xs : List A) → Lengthens A xs xs
 lengthens_same xs = record { further = []; joins = sym (append-nil xs) }
-
-pub lengthens_equal : {A : Type 0} {xs ys : List A} → ys ≡ xs → Lengthens A xs ys
-lengthens_equal {A} {xs} {ys} e = record { further = []; joins = e ∙ sym (append-nil xs) }
 
 pub lengthens_on : {A : Type 0} {xs ys zs : List A} → Lengthens A xs ys → Lengthens A ys zs → Lengthens A xs zs
 lengthens_on {A} {xs} {ys} {zs} g h = record {
@@ -99,8 +101,8 @@ stands_wide g nowhere = nowhere
 stands_wide g (expression {n = n} within is rest) = expression (within_on g.exprs within) (is ∙ sym (stays n g.exprs within)) (stands_wide g rest)
 stands_wide g (over {r = r} {h = h} {cs = cs} node below under is rest) = over (node_at_on r h cs g node) below (stands_wide g under) is (stands_wide g rest)
 
-pub holds_on : {u v : Units} {r : held.Children} {d : Children} → Grows u v → Holds u r d → Holds v r d
-holds_on {u} {v} {r} {d} g h = record { exprs = stands_wide g.widens h.exprs; stmts = stands_wide g.widens h.stmts; decls = stands_wide g.widens h.decls; aspects = stands_wide g.widens h.aspects }
+pub holds_on : {u v : Units} {r : held.Children} {d : Children} → IsOrdered v → Grows u v → Holds u r d → Holds v r d
+holds_on {u} {v} {r} {d} o g h = record { ordered = o; exprs = stands_wide g.widens h.exprs; stmts = stands_wide g.widens h.stmts; decls = stands_wide g.widens h.decls; aspects = stands_wide g.widens h.aspects }
 
 -- one list of numbers behind another
 pub stands_append : {u : Units} {xs ys : List Ref} {ts us : List Tree} → Stands u xs ts → Stands u ys us → Stands u (xs ++ ys) (ts ++ us)
@@ -114,27 +116,6 @@ stands_push a b = stands_append a b
 -- the same numbers by another name
 stands_as : {u : Units} {xs ys : List Ref} {ts : List Tree} → ys ≡ xs → Stands u xs ts → Stands u ys ts
 stands_as {u} {xs} {ys} {ts} e s = subst (λ (z : List Ref). Stands u z ts) (sym e) s
-
-same_head : (x y : Head × List Ref) → Some x ≡ Some y → x.0 ≡ y.0
-same_head x y e = ap (λ (z : Head × List Ref). z.0) (same_Some x y e)
-
-same_below : (x y : Head × List Ref) → Some x ≡ Some y → x.1 ≡ y.1
-same_below x y e = ap (λ (z : Head × List Ref). z.1) (same_Some x y e)
-
-same_over : {h k : Head} {ts us : List Tree} {t w : Tree} → h ≡ k → ts ≡ us → t ≡ with_all (Root h) ts → w ≡ with_all (Root k) us → t ≡ w
-same_over {h} {k} {ts} {us} {t} {w} e f a b = a ∙ (ap (λ (z : Head). with_all (Root z) ts) e ∙ (ap (λ (z : List Tree). with_all (Root k) z) f ∙ sym b))
-
-same_list : {t w : Tree} {ts us : List Tree} → t ≡ w → ts ≡ us → t ∷ ts ≡ w ∷ us
-same_list {t} {w} {ts} {us} e f = ap (λ (z : Tree). z ∷ ts) e ∙ ap (λ (z : List Tree). w ∷ z) f
-
--- no number has two trees
-pub stands_one : {u : Units} {rs : List Ref} {ts us : List Tree} → Stands u rs ts → Stands u rs us → ts ≡ us
-stands_one nowhere nowhere = refl
-stands_one (expression within is rest) (expression within2 is2 rest2) = same_list (is ∙ sym is2) (stands_one rest rest2)
-stands_one (expression within is rest) (over {h = h} {cs = cs} node below under is2 rest2) = absurd (none-some (h, cs) node)
-stands_one (over {h = h} {cs = cs} node below under is rest) (expression within is2 rest2) = absurd (none-some (h, cs) node)
-stands_one (over {h = h} {cs = cs} node below under is rest) (over {h = k} {cs = ds} {under = vs} node2 below2 under2 is2 rest2) =
-    same_list (same_over (same_head (h, cs) (k, ds) (sym node ∙ node2)) (stands_one under (stands_as (same_below (h, cs) (k, ds) (sym node ∙ node2)) under2)) is is2) (stands_one rest rest2)
 
 -- the number is one of the list of its type
 abbrev pub IsWithin : Units → Ref → Type 0
@@ -188,6 +169,20 @@ stands_added : {u v : Units} (r : Ref) (h : Head) (c : held.Children) {d : Child
 stands_added {u} {v} r h c {d} above g node holds =
     over node (are_under u r (refs c.exprs c.stmts c.decls c.aspects) above (stands_within (stands_refs holds))) (stands_wide g (stands_refs holds)) refl nowhere
 
+-- the numbers of children that are held are there
+
+within_all : {A : Type 0} (ref : A → Ref) (P : A → Type 0) (u : Units) → ((x : A) → IsWithin u (ref x) → P x) → (xs : List A) → AreWithin u (map ref xs) → All P xs
+within_all ref P u go [] w = All-nil P
+within_all ref P u go (x ∷ xs) w = All-cons P x xs (go x w.0) (within_all ref P u go xs w.1)
+
+children_there : {u : Units} {r : held.Children} {d : Children} → Holds u r d → tree.AreBelow (counts u) r.exprs r.stmts r.decls r.aspects
+children_there {u} {r} {d} h = record {
+  exprs_below = within_all ExprRef (λ (n : ExprNo). n.0 < length u.exprs) u (λ n w. omega (arith, trees_length u.exprs, w)) r.exprs (stands_within h.exprs);
+  stmts_below = within_all StmtRef (λ (n : StmtNo). n.0 < length u.stmts) u (λ n w. w) r.stmts (stands_within h.stmts);
+  decls_below = within_all DeclRef (λ (n : DeclNo). n.0 < length u.decls) u (λ n w. w) r.decls (stands_within h.decls);
+  aspects_below = within_all AspectRef (λ (n : AspectNo). n.0 < length u.aspects) u (λ n w. w) r.aspects (stands_within h.aspects);
+}
+
 -- A node more, and its number
 
 pub stmts_grow : {u : Units} {list : List StmtNode} {x : StmtNode} {n : ℕ} → Appends StmtNode u.stmts list x n → Grows u (record u { stmts = list })
@@ -198,8 +193,10 @@ pub stmt_builds : {u : Units} {own into : held.Children} (kind : StmtKind) (span
     → numbers ≡ into.stmts ++ record { 0 = n } ∷ [] → (os ds : Children) → Holds u own os → Holds u into ds
     → Holds (record u { stmts = list }) (record into { stmts = numbers }) (with_stmt ds (node_tree (OfStmt kind) span (written name) os))
 stmt_builds {u} {own} {into} kind span name {list} {numbers} {n} a e os ds under before =
-    let h = holds_on (stmts_grow a) before in
+    let o = stmt_ordered _ a.joins before.ordered (children_there under) in
+    let h = holds_on o (stmts_grow a) before in
     record {
+      ordered = o;
       exprs = h.exprs;
       stmts = stands_as (ap (λ (z : List StmtNo). map StmtRef z) e ∙ map-append StmtRef into.stmts (record { 0 = n } ∷ []))
           (stands_push h.stmts (stands_added (StmtRef (record { 0 = n })) (record { kind = OfStmt kind; span = span; name = written name }) own a.place (stmts_grow a).widens (ap stmt_node (appended_get a)) under));
@@ -215,8 +212,10 @@ pub decl_builds : {u : Units} {own into : held.Children} (kind : DeclKind) (span
     → numbers ≡ into.decls ++ record { 0 = n } ∷ [] → (os ds : Children) → Holds u own os → Holds u into ds
     → Holds (record u { decls = list }) (record into { decls = numbers }) (with_decl ds (node_tree (OfDecl kind) span (written name) os))
 decl_builds {u} {own} {into} kind span name {list} {numbers} {n} a e os ds under before =
-    let h = holds_on (decls_grow a) before in
+    let o = decl_ordered _ a.joins before.ordered (children_there under) in
+    let h = holds_on o (decls_grow a) before in
     record {
+      ordered = o;
       exprs = h.exprs;
       stmts = h.stmts;
       decls = stands_as (ap (λ (z : List DeclNo). map DeclRef z) e ∙ map-append DeclRef into.decls (record { 0 = n } ∷ []))
@@ -232,8 +231,10 @@ pub aspect_builds : {u : Units} {own into : held.Children} (kind : AspectKind) (
     → numbers ≡ into.aspects ++ record { 0 = n } ∷ [] → (os ds : Children) → Holds u own os → Holds u into ds
     → Holds (record u { aspects = list }) (record into { aspects = numbers }) (with_aspect ds (node_tree (OfAspect kind) span (written name) os))
 aspect_builds {u} {own} {into} kind span name {list} {numbers} {n} a e os ds under before =
-    let h = holds_on (aspects_grow a) before in
+    let o = aspect_ordered _ a.joins before.ordered (children_there under) in
+    let h = holds_on o (aspects_grow a) before in
     record {
+      ordered = o;
       exprs = h.exprs;
       stmts = h.stmts;
       decls = h.decls;
@@ -253,10 +254,16 @@ unit_builds {u} {own} kind span name text {list} {n} a e os under =
     subst (λ (z : ℕ). Stands (record u { units = list }) (UnitRef z ∷ []) (node_tree (OfUnit kind) span (Some text) os ∷ [])) a.place
     (subst (λ (z : Option (List ℕ)). Stands (record u { units = list }) (UnitRef n ∷ []) (node_tree (OfUnit kind) span z os ∷ [])) e s)
 
+pub unit_keeps_order : {u : Units} {own : held.Children} (kind : UnitKind) (span : Span) (name : Option Name) {list : List declared_unit.Unit} {n : ℕ}
+    → Appends declared_unit.Unit u.units list (record { span = span; kind = kind; name = name; exprs = own.exprs; stmts = own.stmts; decls = own.decls; aspects = own.aspects }) n
+    → (os : Children) → Holds u own os → IsOrdered (record u { units = list })
+unit_keeps_order kind span name a os under = unit_ordered _ a.joins under.ordered (children_there under)
+
 -- one expression more
 pub expr_holds : {u : Units} {into : held.Children} {numbers : List ExprNo} (n : ExprNo) → numbers ≡ into.exprs ++ n ∷ [] → (ds : Children) (t : Tree) → Holds u into ds → Stands u (ExprRef n ∷ []) (t ∷ [])
     → Holds u (record into { exprs = numbers }) (with_expr ds t)
 expr_holds {u} {into} {numbers} n e ds t h s = record {
+  ordered = h.ordered;
   exprs = stands_as (ap (λ (z : List ExprNo). map ExprRef z) e ∙ map-append ExprRef into.exprs (n ∷ [])) (stands_push h.exprs s);
   stmts = h.stmts;
   decls = h.decls;
@@ -266,14 +273,19 @@ expr_holds {u} {into} {numbers} n e ds t h s = record {
 pub exprs_grow : {u : Units} {list : List ExprNode} → Extends u.exprs list → Grows u (record u { exprs = list })
 exprs_grow {u} g = record { widens = record { exprs = g; stmts = lengthens_same u.stmts; decls = lengthens_same u.decls; aspects = lengthens_same u.aspects; units = lengthens_same u.units }; units = refl }
 
+-- what is held goes on to, where expressions are added
+pub holds_extended : {u : Units} {r : held.Children} {d : Children} {list : List ExprNode} → Extends u.exprs list → Holds u r d → Holds (record u { exprs = list }) r d
+holds_extended {u} {r} {d} {list} g h = holds_on (extends_ordered g h.ordered) (exprs_grow g) h
+
 -- an expression that was built, where other expressions are added
 pub built_holds : {u : Units} {into : held.Children} {list : List ExprNode} (n : ExprNo) (t : Tree) → Extends u.exprs list → n.0 < length (trees list) → t ≡ tree_at (trees list) n → (ds : Children) → Holds u into ds
     → Holds (record u { exprs = list }) into ds × Stands (record u { exprs = list }) (ExprRef n ∷ []) (t ∷ [])
-built_holds {u} {into} {list} n t g within is ds h = (holds_on (exprs_grow g) h, expression within is nowhere)
+built_holds {u} {into} {list} n t g within is ds h = (holds_extended g h, expression within is nowhere)
 
 -- no children
-pub holds_none : (u : Units) {r : held.Children} → r.exprs ≡ [] → r.stmts ≡ [] → r.decls ≡ [] → r.aspects ≡ [] → Holds u r none
-holds_none u {r} a b c d = record {
+pub holds_none : (u : Units) {r : held.Children} → r.exprs ≡ [] → r.stmts ≡ [] → r.decls ≡ [] → r.aspects ≡ [] → IsOrdered u → Holds u r none
+holds_none u {r} a b c d o = record {
+  ordered = o;
   exprs = stands_as (ap (λ (z : List ExprNo). map ExprRef z) a) nowhere;
   stmts = stands_as (ap (λ (z : List StmtNo). map StmtRef z) b) nowhere;
   decls = stands_as (ap (λ (z : List DeclNo). map DeclRef z) c) nowhere;

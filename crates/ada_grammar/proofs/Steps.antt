@@ -2,14 +2,18 @@
 use Rattle.std.proofs.Common.{◌≡◌, ◌⊎◌, inl, inr, Bool, true, false, not, ◌||◌, ◌&&◌, if◌then◌else◌, List, [], ◌∷◌, ◌++◌, Option, Some, refl, sym, ◌∙◌, ap, subst, append_assoc, append-nil}
 use Rattle.ada_grammar.specs.declared.tokens.Class.{Class}
 use Rattle.ada_grammar.specs.declared.tokens.Nesting.{Nesting}
-use Rattle.ada_grammar.specs.Sorts.{is_in, same_class}
+use Rattle.ada_grammar.specs.Sorts.{is_in}
 use Rattle.ada_grammar.specs.Lexemes.{Lexeme, sort}
 use Rattle.ada_grammar.specs.Limits.{step, step_on, walk, walk_on}
 use Rattle.ada_grammar.specs.Phrases.{Phrase}
-use Rattle.ada_grammar.specs.Grammar.{Part, Body, Never, Gives, Take, Call, Rest, Or, When, rule, Fits, gives, take, call, rest, left, right, yes, no, Spells, more}
-use Rattle.ada_grammar.specs.Reading.{Point, At, Free, Viable, Awaits, Reads, Bars}
+use Rattle.ada_grammar.specs.Parts.{Part, Body, Never, Gives, Take, Call, Rest, Or, When}
+use Rattle.ada_grammar.specs.Grammar.{rule}
+use Rattle.ada_grammar.specs.Spelling.{Fits, gives, take, call, rest, left, right, yes, no, Spells}
+use Rattle.ada_grammar.specs.More.{more}
+use Rattle.ada_grammar.specs.Fronts.{Point, Viable, Bars}
+use Rattle.ada_grammar.specs.Reading.{At, Free, Awaits, Reads}
 use Rattle.ada_grammar.specs.Taking.{NotFirst, Takes, Stops}
-use Rattle.ada_grammar.proofs.EverySort.{all_sorts, and_left, and_right, by_sort, one_class}
+use Rattle.ada_grammar.proofs.EverySort.{all_sorts, same_class, and_left, and_right, by_sort, one_class}
 use Rattle.ada_grammar.proofs.Begins.{only_if, holds, first, null, Starts, starts, sample_phrase, sample, inhabited, Sentence, sentence}
 
 -- tokens that are read stand as they do

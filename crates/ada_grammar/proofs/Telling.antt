@@ -10,7 +10,7 @@ use Rattle.ada_grammar.specs.declared.tokens.Cursor.{Cursor}
 use Rattle.ada_grammar.specs.declared.tokens.Fault.{Fault}
 use Rattle.ada_grammar.specs.declared.tokens.Fault.TheVariants as fault
 use Rattle.ada_grammar.specs.Answer.{ForLimit, ForSyntax, HasAspects, HasDeclarations, HasSequence, IsFault}
-use Rattle.ada_grammar.specs.Grammar.{Part}
+use Rattle.ada_grammar.specs.Parts.{Part}
 use Rattle.ada_grammar.specs.Lexemes.{lexemes}
 use Rattle.ada_grammar.specs.Reading.{Barred, Fails, Refused}
 use Rattle.ada_grammar.specs.Refusals.{Tells, syntax_message, limit_message}

@@ -14,8 +14,9 @@ use Rattle.ada_grammar.specs.Lexemes.{Lexeme, lexemes}
 use Rattle.ada_grammar.specs.Limits.{walk}
 use Rattle.ada_grammar.specs.Phrases.{Tree, Phrase, Children, gives}
 use Rattle.ada_grammar.specs.Built.{tree_at}
-use Rattle.ada_grammar.specs.Grammar.{Part, Spells}
-use Rattle.ada_grammar.specs.Reading.{Viable, Bars}
+use Rattle.ada_grammar.specs.Parts.{Part}
+use Rattle.ada_grammar.specs.Spelling.{Spells}
+use Rattle.ada_grammar.specs.Fronts.{Viable, Bars}
 use Rattle.ada_grammar.specs.Refusals.{syntax_message, limit_message}
 use Rattle.ada_grammar.specs.Standing.{Stands, StmtRef, DeclRef, AspectRef}
 
@@ -87,7 +88,8 @@ IsAnswer part level tokens at built (Ok (n, next)) = HasRead part level tokens a
 IsAnswer part level tokens at built (Err f) = IsFault part level tokens at f
 
 -- the part was read as aspects: their numbers, at which their trees stand, and the place behind them
-pub record HasAspects (part : Part) (level : Nesting) (tokens : Tokens) (at : ℕ) (u : Units) (list : List AspectNo) (next : ℕ) : Type 0 where
+pub record HasAspects (part : Part) (level : Nesting) (tokens : Tokens) (at : ℕ) (u : Units) (list : List AspectNo) (next : ℕ)
+    : Type 0 where
   pub forward : at ≤ next
   pub ends : next ≤ length tokens.list
   pub children : Children
@@ -95,7 +97,8 @@ pub record HasAspects (part : Part) (level : Nesting) (tokens : Tokens) (at : �
   pub reads : IsPhrase part level (drop at (lexemes tokens)) (drop next (lexemes tokens)) (gives children)
 
 -- the same of declarations
-pub record HasDeclarations (part : Part) (level : Nesting) (tokens : Tokens) (at : ℕ) (u : Units) (list : List DeclNo) (next : ℕ) : Type 0 where
+pub record HasDeclarations (part : Part) (level : Nesting) (tokens : Tokens) (at : ℕ) (u : Units) (list : List DeclNo) (next : ℕ)
+    : Type 0 where
   pub forward : at ≤ next
   pub ends : next ≤ length tokens.list
   pub children : Children

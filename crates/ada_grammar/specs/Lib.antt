@@ -1,9 +1,14 @@
+pub mod Numbers
 pub mod Sorts
 pub mod Lexemes
 pub mod Limits
 pub mod Phrases
 pub mod Built
+pub mod Parts
 pub mod Grammar
+pub mod Spelling
+pub mod More
+pub mod Fronts
 pub mod Reading
 pub mod Standing
 pub mod Taking

@@ -28,7 +28,17 @@ most_loops = 16
 
 -- before a declaration or an expression: so many open parentheses, and no compound statement
 abbrev pub nesting : ℕ → ℕ → Nesting
-nesting depth parted = record { depth = depth; operators = 0; parted = parted; compounds = 0; loops = 0; in_statements = false; skips = false; head = heads.Nothing; last = lasts.Other }
+nesting depth parted = record {
+  depth = depth;
+  operators = 0;
+  parted = parted;
+  compounds = 0;
+  loops = 0;
+  in_statements = false;
+  skips = false;
+  head = heads.Nothing;
+  last = lasts.Other;
+}
 
 -- behind so many open parentheses, before an expression that stands in no other
 abbrev pub outermost : ℕ → Nesting
@@ -40,7 +50,7 @@ before_range depth = nesting depth (depth + 1)
 
 -- before a statement that stands in no other
 abbrev pub before_statements : Nesting
-before_statements = record { depth = 0; operators = 0; parted = 1; compounds = 0; loops = 0; in_statements = true; skips = false; head = heads.Nothing; last = lasts.Other }
+before_statements = record (nesting 0 1) { in_statements = true }
 
 -- what a reserved word is to the limits; and then, or else, not in are one operator each, by their first words
 abbrev pub word_weight : Reserved → Weight
@@ -114,23 +124,23 @@ last_of s = lasts.Other
 
 -- what changes, and all else as it was
 abbrev pub with_depth : Nesting → ℕ → Nesting
-with_depth n depth = record { depth = depth; operators = n.operators; parted = n.parted; compounds = n.compounds; loops = n.loops; in_statements = n.in_statements; skips = n.skips; head = n.head; last = n.last }
+with_depth n depth = record n { depth = depth }
 
 abbrev pub with_count : Nesting → ℕ → ℕ → Nesting
-with_count n operators parted = record { depth = n.depth; operators = operators; parted = parted; compounds = n.compounds; loops = n.loops; in_statements = n.in_statements; skips = n.skips; head = n.head; last = n.last }
+with_count n operators parted = record n { operators = operators; parted = parted }
 
 abbrev pub with_open : Nesting → ℕ → ℕ → LoopHead → Nesting
-with_open n compounds loops head = record { depth = n.depth; operators = n.operators; parted = n.parted; compounds = compounds; loops = loops; in_statements = n.in_statements; skips = n.skips; head = head; last = n.last }
+with_open n compounds loops head = record n { compounds = compounds; loops = loops; head = head }
 
 abbrev pub with_statements : Nesting → Bool → Nesting
-with_statements n inside = record { depth = n.depth; operators = n.operators; parted = n.parted; compounds = n.compounds; loops = n.loops; in_statements = inside; skips = n.skips; head = n.head; last = n.last }
+with_statements n inside = record n { in_statements = inside }
 
 abbrev pub with_skips : Nesting → Bool → Nesting
-with_skips n skips = record { depth = n.depth; operators = n.operators; parted = n.parted; compounds = n.compounds; loops = n.loops; in_statements = n.in_statements; skips = skips; head = n.head; last = n.last }
+with_skips n skips = record n { skips = skips }
 
 abbrev pub with_last : Last → Option Nesting → Option Nesting
 with_last last None = None
-with_last last (Some n) = Some (record { depth = n.depth; operators = n.operators; parted = n.parted; compounds = n.compounds; loops = n.loops; in_statements = n.in_statements; skips = n.skips; head = n.head; last = last })
+with_last last (Some n) = Some (record n { last = last })
 
 -- whether the token before is this one
 abbrev pub is_not : Last → Bool

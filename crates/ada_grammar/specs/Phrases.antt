@@ -60,6 +60,13 @@ none = record { exprs = []; stmts = []; decls = []; aspects = []; units = [] }
 abbrev pub with_expr : Children → Tree → Children
 with_expr d t = record d { exprs = d.exprs ++ t ∷ [] }
 
+-- an expression alone, and two
+abbrev pub one_expr : Tree → Children
+one_expr t = with_expr none t
+
+abbrev pub two_exprs : Tree → Tree → Children
+two_exprs t u = with_expr (one_expr t) u
+
 abbrev pub with_stmt : Children → Tree → Children
 with_stmt d t = record d { stmts = d.stmts ++ t ∷ [] }
 
@@ -96,7 +103,8 @@ blank = gives none
 
 -- a node over its children: first the expressions, then the statements, the declarations and the aspects
 abbrev pub node_tree : NodeKind → Span → Option (List ℕ) → Children → Tree
-node_tree kind span name d = with_all (Root (record { kind = kind; span = span; name = name })) (d.exprs ++ (d.stmts ++ (d.decls ++ d.aspects)))
+node_tree kind span name d =
+    with_all (Root (record { kind = kind; span = span; name = name })) (d.exprs ++ (d.stmts ++ (d.decls ++ d.aspects)))
 
 -- a node with the name that a token has, and which stands where the token does
 abbrev pub named_tree : NodeKind → Lexeme → Children → Tree
@@ -136,11 +144,21 @@ join a b = record { file = a.file; from = a.from; to = b.to }
 
 -- a node without a name over these, which stands where all of it stands
 abbrev pub node : Form → ExprKind → Span → List Tree → Phrase
-node form kind span children = record { tree = with_all (Root (record { kind = OfExpr kind; span = span; name = None })) children; span = span; form = form; children = none }
+node form kind span children = record {
+  tree = with_all (Root (record { kind = OfExpr kind; span = span; name = None })) children;
+  span = span;
+  form = form;
+  children = none;
+}
 
 -- a node with the name that a token has, of which all stands at this span
 abbrev pub named : Form → ExprKind → Lexeme → Span → List Tree → Phrase
-named form kind t span children = record { tree = with_all (Root (record { kind = OfExpr kind; span = t.token.span; name = Some t.text })) children; span = span; form = form; children = none }
+named form kind t span children = record {
+  tree = with_all (Root (record { kind = OfExpr kind; span = t.token.span; name = Some t.text })) children;
+  span = span;
+  form = form;
+  children = none;
+}
 
 -- whether it is a simple expression: no relation, no membership and no chain of them
 abbrev pub is_simple : Form → Bool
@@ -195,10 +213,12 @@ abbrev pub logical : LogicalOperator → Lexeme → Phrase → Phrase → Phrase
 logical operator t a b = node forms.Relation (kinds.Logical operator t.token.span.from) (join a.span b.span) (a.tree ∷ b.tree ∷ [])
 
 abbrev pub relation : Lexeme → Phrase → Phrase → Phrase
-relation t a b = node forms.Relation (kinds.Relation (relational_of t.token.kind) t.token.span.from) (join a.span b.span) (a.tree ∷ b.tree ∷ [])
+relation t a b =
+    node forms.Relation (kinds.Relation (relational_of t.token.kind) t.token.span.from) (join a.span b.span) (a.tree ∷ b.tree ∷ [])
 
 abbrev pub range_membership : Bool → Phrase → Phrase → Phrase → Phrase
-range_membership is_not a low high = node forms.Relation (kinds.RangeMembership is_not) (join a.span high.span) (a.tree ∷ low.tree ∷ high.tree ∷ [])
+range_membership is_not a low high =
+    node forms.Relation (kinds.RangeMembership is_not) (join a.span high.span) (a.tree ∷ low.tree ∷ high.tree ∷ [])
 
 abbrev pub mark_membership : Bool → Phrase → Phrase → Phrase
 mark_membership is_not a mark = node forms.Relation (kinds.MarkMembership is_not) (join a.span mark.span) (a.tree ∷ mark.tree ∷ [])
@@ -210,7 +230,8 @@ abbrev pub sum : Lexeme → Phrase → Phrase → Phrase
 sum t a b = node forms.Simple (kinds.Sum (adding_of t.token.kind) t.token.span.from) (join a.span b.span) (a.tree ∷ b.tree ∷ [])
 
 abbrev pub product : Lexeme → Phrase → Phrase → Phrase
-product t a b = node forms.Simple (kinds.Product (multiplying_of t.token.kind) t.token.span.from) (join a.span b.span) (a.tree ∷ b.tree ∷ [])
+product t a b =
+    node forms.Simple (kinds.Product (multiplying_of t.token.kind) t.token.span.from) (join a.span b.span) (a.tree ∷ b.tree ∷ [])
 
 abbrev pub power : Lexeme → Phrase → Phrase → Phrase
 power t a b = node forms.Simple (kinds.Power t.token.span.from) (join a.span b.span) (a.tree ∷ b.tree ∷ [])
@@ -232,7 +253,8 @@ abbrev pub conditional : Lexeme → List Tree → Phrase → Phrase
 conditional t arms last = node forms.Simple kinds.Conditional (join t.token.span last.span) (arms ++ last.tree ∷ [])
 
 abbrev pub positional : Bool → Lexeme → List Tree → Lexeme → Phrase
-positional has_others opening items close = node forms.Simple (kinds.PositionalAggregate has_others) (join opening.token.span close.token.span) items
+positional has_others opening items close =
+    node forms.Simple (kinds.PositionalAggregate has_others) (join opening.token.span close.token.span) items
 
 abbrev pub named_aggregate : Lexeme → List Tree → Lexeme → Phrase
 named_aggregate opening associations close = node forms.Simple kinds.NamedAggregate (join opening.token.span close.token.span) associations
@@ -283,7 +305,8 @@ abbrev pub indication : Phrase → Phrase
 indication mark = node forms.Simple (kinds.SubtypeIndication false) mark.span (mark.tree ∷ [])
 
 abbrev pub range_indication : Phrase → Phrase → Phrase → Phrase
-range_indication mark low high = node forms.Simple (kinds.SubtypeIndication true) (join mark.span high.span) (mark.tree ∷ low.tree ∷ high.tree ∷ [])
+range_indication mark low high =
+    node forms.Simple (kinds.SubtypeIndication true) (join mark.span high.span) (mark.tree ∷ low.tree ∷ high.tree ∷ [])
 
 abbrev pub subtype_range : Phrase → Phrase
 subtype_range a = node forms.Simple kinds.SubtypeRange a.span (a.tree ∷ [])

@@ -1,4 +1,4 @@
--- What is known while tokens are read.
+-- What readers know on their way, and promise one another. No public answer speaks of it.
 use Rattle.std.specs.Prelude.{ℕ, ◌<◌, ◌≤◌, length, drop, Result, Ok, Err, ◌≡◌, Bool, false, List, [], ◌∷◌, ◌++◌, Some, None}
 use Rattle.ada_grammar.specs.declared.tokens.Cursor.{Cursor}
 use Rattle.ada_grammar.specs.declared.tokens.Nesting.{Nesting}
@@ -10,12 +10,10 @@ use Rattle.ada_grammar.specs.Lexemes.{Lexeme, sort}
 use Rattle.ada_grammar.specs.Limits.{step, walk}
 use Rattle.ada_grammar.specs.Phrases.{Tree, Phrase}
 use Rattle.ada_grammar.specs.Built.{phrase}
-use Rattle.ada_grammar.specs.Grammar.{Part, Body, Never, Gives, Fits, Spells, more}
-
--- the tokens that are still to be read, and what the limits know of those before them
-pub record Point : Type 0 where
-  pub rest : List Lexeme
-  pub level : Nesting
+use Rattle.ada_grammar.specs.Parts.{Part, Body, Never, Gives}
+use Rattle.ada_grammar.specs.Spelling.{Fits, Spells}
+use Rattle.ada_grammar.specs.More.{more}
+use Rattle.ada_grammar.specs.Fronts.{Point, Viable, Bars}
 
 abbrev pub point : List Lexeme → Cursor → Point
 point ts c = record { rest = drop c.at ts; level = c.nesting }
@@ -31,10 +29,6 @@ abbrev pub Free : (Sort → Bool) → List Lexeme → Type 0
 Free more [] = Unit {0}
 Free more (t ∷ q) = more (sort t) ≡ false
 
--- some sentence of the part begins with these tokens
-abbrev pub Viable : Part → List Lexeme → Type 0
-Viable part u = (y : Phrase) × (v : List Lexeme) × Spells part y (u ++ v)
-
 -- From p to q tokens were read, which pass no limit, and what is still to come for the part is exactly what rest says:
 -- each such end makes a sentence of the part, and each sentence that goes on as the tokens at q do, and stops before a
 -- token with which it could go on, has such an end. Some sentence begins so.
@@ -44,7 +38,9 @@ pub record Awaits (part : Part) (p q : Point) (rest : Body) : Type 0 where
   pub walked : walk p.level word ≡ Some q.level
   pub viable : Viable part word
   pub made : (y : Phrase) (v : List Lexeme) → Fits rest y v → Spells part y (word ++ v)
-  pub only : (y : Phrase) (s r w : List Lexeme) → At q.rest w → s ++ r ≡ word ++ w → Free (more part) r → Spells part y s → (v : List Lexeme) × (s ≡ word ++ v) × (v ++ r ≡ w) × Fits rest y v
+  pub only : (y : Phrase) (s r w : List Lexeme)
+      → At q.rest w → s ++ r ≡ word ++ w → Free (more part) r → Spells part y s
+      → (v : List Lexeme) × (s ≡ word ++ v) × (v ++ r ≡ w) × Fits rest y v
 
 -- the part reads from p as far as q, and as x
 abbrev pub Reads : Part → Point → Point → Phrase → Type 0
@@ -57,24 +53,13 @@ pub record Refused (part : Part) (ts : List Lexeme) (cursor : Cursor) (i : ℕ) 
   pub level : Nesting
   pub sticks : Awaits part (point ts cursor) (record { rest = drop i ts; level = level }) Never
 
--- Some sentence begins with the tokens from p to the first of r and with it; it is the first that passes a limit.
-pub record Bars (part : Part) (p : Point) (r : List Lexeme) : Type 0 where
-  pub word : List Lexeme
-  pub token : Lexeme
-  pub further : List Lexeme
-  pub joins : r ≡ token ∷ further
-  pub splits : p.rest ≡ word ++ r
-  pub viable : Viable part (word ++ token ∷ [])
-  pub level : Nesting
-  pub walked : walk p.level word ≡ Some level
-  pub passes : step level (sort token) ≡ None
-
 pub record Barred (part : Part) (ts : List Lexeme) (cursor : Cursor) (i : ℕ) : Type 0 where
   pub ends : i < length ts
   pub bars : Bars part (point ts cursor) (drop i ts)
 
 -- the tokens from the cursor to the next are read as a node that was built
-pub record Done (part : Part) (ts : List Lexeme) (cursor : Cursor) (built : List Tree) (x : Built) (next : Cursor) : Type 0 where
+pub record Done (part : Part) (ts : List Lexeme) (cursor : Cursor) (built : List Tree) (x : Built) (next : Cursor)
+    : Type 0 where
   pub within : x.node.0 < length built
   pub forward : cursor.at ≤ next.at
   pub ends : next.at ≤ length ts

@@ -72,7 +72,13 @@ abbrev pub refused : FileNo → Code → Pos → Message
 refused file c place = record { file = file; place = place; code = c; text = refusal_text c; kind = kind.Refused }
 
 abbrev pub outside_message : FileNo → List ℕ → Token → Message
-outside_message file source t = record { file = file; place = t.span.from; code = code.U01; text = outside_text (told t.kind (text_of source t)); kind = kind.Refused }
+outside_message file source t = record {
+  file = file;
+  place = t.span.from;
+  code = code.U01;
+  text = outside_text (told t.kind (text_of source t));
+  kind = kind.Refused;
+}
 
 abbrev pub unless_outside : Bool → Message → Message → Message
 unless_outside true outside syntax = outside
@@ -81,7 +87,10 @@ unless_outside false outside syntax = syntax
 -- no sentence goes on so: U01 for a token that the subset leaves out, S01 for any other, and S01 at the end
 abbrev pub syntax_at : Tokens → Option Token → Message
 syntax_at tokens None = refused tokens.file code.S01 tokens.end
-syntax_at tokens (Some t) = unless_outside (is_outside t.kind) (outside_message tokens.file tokens.source t) (refused tokens.file code.S01 t.span.from)
+syntax_at tokens (Some t) =
+    unless_outside (is_outside t.kind)
+    (outside_message tokens.file tokens.source t)
+    (refused tokens.file code.S01 t.span.from)
 
 abbrev pub syntax_message : Tokens → ℕ → Message
 syntax_message tokens i = syntax_at tokens (slice_get tokens.list i)

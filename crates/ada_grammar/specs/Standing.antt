@@ -9,13 +9,15 @@ use Rattle.ada_tree.specs.declared.declarations.DeclNode.{DeclNode}
 use Rattle.ada_tree.specs.declared.aspects.AspectNode.{AspectNode}
 use Rattle.ada_tree.specs.declared.units.Unit as declared_unit
 use Rattle.ada_tree.specs.declared.units.Units.{Units}
+use Rattle.ada_tree.specs.Tree.{IsOrdered}
 use Rattle.ada_grammar.specs.declared.children.Children as held
+use Rattle.ada_grammar.specs.declared.children.SharedChildren as shared
 use Rattle.ada_grammar.specs.declared.tokens.Cursor.{Cursor}
 use Rattle.ada_grammar.specs.declared.tokens.Fault.{Fault}
 use Rattle.ada_grammar.specs.Lexemes.{Lexeme}
 use Rattle.ada_grammar.specs.Phrases.{OfStmt, OfDecl, OfAspect, OfUnit, Head, Tree, Root, with_all, Children, with_expr, Phrase, gives, blank}
 use Rattle.ada_grammar.specs.Built.{trees, tree_at, written, Extends}
-use Rattle.ada_grammar.specs.Grammar.{Part}
+use Rattle.ada_grammar.specs.Parts.{Part}
 use Rattle.ada_grammar.specs.Reading.{point, Reads, Fails}
 
 -- the number of a node, of each type of node
@@ -73,8 +75,13 @@ pub data Stands (u : Units) : List Ref → List Tree → Type 0 where
   expression : {n : ExprNo} {t : Tree} {rs : List Ref} {ts : List Tree} → n.0 < length (trees u.exprs) → t ≡ tree_at (trees u.exprs) n → Stands u rs ts → Stands u (ExprRef n ∷ rs) (t ∷ ts)
   over : {r : Ref} {t : Tree} {h : Head} {cs rs : List Ref} {under ts : List Tree} → node_at u r ≡ Some (h, cs) → AreUnder r cs → Stands u cs under → t ≡ with_all (Root h) under → Stands u rs ts → Stands u (r ∷ rs) (t ∷ ts)
 
--- these trees stand at the numbers that are held
+-- the children that names share
+abbrev pub shared_children : shared.SharedChildren → held.Children
+shared_children s = record { exprs = s.exprs; stmts = s.stmts; decls = s.decls; aspects = s.aspects }
+
+-- these trees stand at the numbers that are held, and all nodes are ordered, also those that no tree has
 pub record Holds (u : Units) (r : held.Children) (d : Children) : Type 0 where
+  pub ordered : IsOrdered u
   pub exprs : Stands u (map ExprRef r.exprs) d.exprs
   pub stmts : Stands u (map StmtRef r.stmts) d.stmts
   pub decls : Stands u (map DeclRef r.decls) d.decls

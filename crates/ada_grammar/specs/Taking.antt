@@ -8,7 +8,8 @@ use Rattle.ada_grammar.specs.declared.tokens.Fault.TheVariants as faults
 use Rattle.ada_grammar.specs.Sorts.{is_in}
 use Rattle.ada_grammar.specs.Lexemes.{Lexeme, sort}
 use Rattle.ada_grammar.specs.Limits.{step}
-use Rattle.ada_grammar.specs.Reading.{Point, point}
+use Rattle.ada_grammar.specs.Fronts.{Point}
+use Rattle.ada_grammar.specs.Reading.{point}
 
 -- the first token is this one, and of the class
 pub record Begins (c : Class) (t : Lexeme) (r further : List Lexeme) : Type 0 where

@@ -2,14 +2,15 @@ ghost use Rattle.std.specs.Prelude.{◌≡◌, ◌+◌, [], ◌∷◌, ◌++◌,
 ghost use Rattle.ada_grammar.specs.Built.{written};
 ghost use Rattle.ada_grammar.specs.Lexemes.{lexeme};
 ghost use Rattle.ada_grammar.specs.Phrases as phrases;
-ghost use Rattle.ada_grammar.specs.Standing.{Appends, ExprRef, Grows, Holds, Stands, UnitRef, Widens};
+ghost use Rattle.ada_grammar.specs.Standing.{Appends, ExprRef, Grows, Holds, Stands, UnitRef, Widens, shared_children};
+ghost use Rattle.ada_tree.specs.Tree.{IsOrdered};
 
 use crate::nodes::{Form, add_named, text};
 use ada_tree::{
     AspectKind, AspectNode, DeclKind, DeclNode, ExprKind, StmtKind, StmtNode, Token, Tokens, Unit,
     UnitKind, Units,
 };
-use spark_base::{AspectNo, DeclNo, ExprNo, Items, Name, NoMemory, Span, StmtNo};
+use spark_base::{AspectNo, DeclNo, ExprNo, Items, Name, NoMemory, Shared, Span, StmtNo};
 use std::alloc::Global;
 
 /// What was read of a node that is still open: the numbers of its children, of each type in the order of the source.
@@ -24,7 +25,7 @@ pub struct Children {
 impl Children {
     /// No children.
     pub fn new(alloc: Global) -> Self
-        ensures { (u : Units) → Holds u result phrases.none }
+        ensures { (u : Units) → IsOrdered u → Holds u result phrases.none }
     {
         Children {
             exprs: Items::new(alloc),
@@ -33,16 +34,39 @@ impl Children {
             aspects: Items::new(alloc),
         }
     }
+}
 
-    /// The same once more.
-    fn copy(&self, alloc: Global) -> Result<Self, NoMemory>
-        ensures { IfOk result (λ c. c ≡ self.now) }
+/// The children of a declaration, as each of its names has them.
+#[derive(Debug, Drop)]
+struct SharedChildren {
+    exprs: Shared<ExprNo>,
+    stmts: Shared<StmtNo>,
+    decls: Shared<DeclNo>,
+    aspects: Shared<AspectNo>,
+}
+
+impl SharedChildren {
+    /// These children, to be shared.
+    fn new(own: Children) -> Result<Self, NoMemory>
+        ensures { IfOk result (λ shared. shared_children shared ≡ own) }
     {
-        Ok(Children {
-            exprs: Items::from_vec(Vec::from_slice(alloc, self.exprs.as_slice())?),
-            stmts: Items::from_vec(Vec::from_slice(alloc, self.stmts.as_slice())?),
-            decls: Items::from_vec(Vec::from_slice(alloc, self.decls.as_slice())?),
-            aspects: Items::from_vec(Vec::from_slice(alloc, self.aspects.as_slice())?),
+        Ok(SharedChildren {
+            exprs: Shared::from_items(own.exprs)?,
+            stmts: Shared::from_items(own.stmts)?,
+            decls: Shared::from_items(own.decls)?,
+            aspects: Shared::from_items(own.aspects)?,
+        })
+    }
+
+    /// The same children for one name more.
+    fn share(&self) -> Result<Self, NoMemory>
+        ensures { IfOk result (λ shared. shared ≡ self.now) }
+    {
+        Ok(SharedChildren {
+            exprs: self.exprs.clone()?,
+            stmts: self.stmts.clone()?,
+            decls: self.decls.clone()?,
+            aspects: self.aspects.clone()?,
         })
     }
 }
@@ -99,14 +123,14 @@ fn push_declaration(
     kind: DeclKind,
     span: Span,
     name: Option<Name>,
-    own: Children,
+    own: SharedChildren,
     into: &mut Children,
 ) -> Result<(), NoMemory>
     ensures grows { Grows units.old units.new }
-    ensures builds { IfOk result (λ _. (os ds : phrases.Children) → Holds units.old own os → Holds units.old into.old ds
+    ensures builds { IfOk result (λ _. (os ds : phrases.Children) → Holds units.old (shared_children own) os → Holds units.old into.old ds
         → Holds units.new into.new (phrases.with_decl ds (phrases.node_tree (phrases.OfDecl kind) span (written name) os))) }
 {
-    let Children {
+    let SharedChildren {
         exprs,
         stmts,
         decls,
@@ -186,7 +210,25 @@ pub fn add_declaration(
     ensures builds { IfOk result (λ _. (os ds : phrases.Children) → Holds units.old own os → Holds units.old into.old ds
         → Holds units.new into.new (phrases.unnamed kind span os ds)) }
 {
-    push_declaration(units, kind, span, None, own, into)
+    push_declaration(units, kind, span, None, SharedChildren::new(own)?, into)
+}
+
+/// Adds a declaration of the name that a token has, over children that other names may have too.
+fn declare_shared(
+    alloc: Global,
+    units: &mut Units,
+    tokens: &Tokens,
+    kind: DeclKind,
+    name: Token,
+    own: SharedChildren,
+    into: &mut Children,
+) -> Result<(), NoMemory>
+    ensures grows { Grows units.old units.new }
+    ensures builds { IfOk result (λ _. (os ds : phrases.Children) → Holds units.old (shared_children own) os → Holds units.old into.old ds
+        → Holds units.new into.new (phrases.declared kind (lexeme tokens.now.source name) os ds)) }
+{
+    let text = Name::new(alloc, text(tokens, name))?;
+    push_declaration(units, kind, name.span, Some(text), own, into)
 }
 
 /// Adds a declaration of the name that a token has.
@@ -203,11 +245,11 @@ pub fn declare(
     ensures builds { IfOk result (λ _. (os ds : phrases.Children) → Holds units.old own os → Holds units.old into.old ds
         → Holds units.new into.new (phrases.declared kind (lexeme tokens.now.source name) os ds)) }
 {
-    let text = Name::new(alloc, text(tokens, name))?;
-    push_declaration(units, kind, name.span, Some(text), own, into)
+    let own = SharedChildren::new(own)?;
+    declare_shared(alloc, units, tokens, kind, name, own, into)
 }
 
-/// Adds a declaration of each of these names, all over the same children.
+/// Adds a declaration of each of these names. Their nodes share the lists of their children.
 pub fn declare_all(
     alloc: Global,
     units: &mut Units,
@@ -221,8 +263,9 @@ pub fn declare_all(
     ensures builds { IfOk result (λ _. (os ds : phrases.Children) → Holds units.old own os → Holds units.old into.old ds
         → Holds units.new into.new (phrases.declared_all kind (map (lexeme tokens.now.source) names.now) os ds)) }
 {
+    let own = SharedChildren::new(own)?;
     for name in names.as_slice() {
-        declare(alloc, units, tokens, kind, *name, own.copy(alloc)?, into)?;
+        declare_shared(alloc, units, tokens, kind, *name, own.share()?, into)?;
     }
     Ok(())
 }
@@ -271,6 +314,7 @@ pub fn add_unit(
 ) -> Result<(), NoMemory>
     ensures widens { Widens units.old units.new }
     ensures one { IfOk result (λ _. length units.new.units ≡ length units.old.units + 1) }
+    ensures ordered { IfOk result (λ _. (os : phrases.Children) → Holds units.old own os → IsOrdered units.new) }
     ensures builds { IfOk result (λ _. (os : phrases.Children) → Holds units.old own os
         → Stands units.new (UnitRef (length units.old.units) ∷ []) (phrases.named_tree (phrases.OfUnit kind) (lexeme tokens.now.source name) os ∷ [])) }
 {
@@ -368,22 +412,11 @@ mod tests {
         })
     }
 
-    /// No trees.
-    fn no_units(alloc: Global) -> Units {
-        Units {
-            units: Items::new(alloc),
-            decls: Items::new(alloc),
-            stmts: Items::new(alloc),
-            exprs: Items::new(alloc),
-            aspects: Items::new(alloc),
-        }
-    }
-
     #[test]
     fn each_name_has_a_node(rt: HostRuntime) -> Result<(), Fail> {
         let alloc = rt.alloc();
         let tokens = words(alloc)?;
-        let mut units = no_units(alloc);
+        let mut units = Units::new(alloc);
         let mut own = Children::new(alloc);
         add_end_name(alloc, &mut units, &tokens, word(4, 5), &mut own)?;
         let mut names = Items::new(alloc);
@@ -400,28 +433,33 @@ mod tests {
             &mut into,
         )?;
         assert_eq!(rt; units.exprs.len(), 1);
-        assert_eq!(rt; units.decls.len(), 2);
         assert_eq!(rt; into.decls.len(), 2);
-        if let Some(node) = units.decls.get(1) {
-            assert_eq!(rt; node.exprs.len(), 1);
+        for node in units.decls.as_slice() {
+            assert_eq!(rt; node.exprs.as_slice(), [ExprNo(0)].as_slice());
         }
         Ok(())
+    }
+
+    /// A null statement over an end name, and an exit.
+    fn statements(alloc: Global, units: &mut Units, tokens: &Tokens) -> Result<Children, NoMemory> {
+        let mut own = Children::new(alloc);
+        add_end_name(alloc, units, tokens, word(0, 1), &mut own)?;
+        let mut into = Children::new(alloc);
+        add_statement(units, StmtKind::Null, PART, own, &mut into)?;
+        let exit = StmtKind::Exit {
+            has_loop_name: true,
+            has_condition: false,
+        };
+        add_statement(units, exit, PART, Children::new(alloc), &mut into)?;
+        Ok(into)
     }
 
     #[test]
     fn nodes_stand_under_a_unit(rt: HostRuntime) -> Result<(), Fail> {
         let alloc = rt.alloc();
         let tokens = words(alloc)?;
-        let mut units = no_units(alloc);
-        let mut own = Children::new(alloc);
-        add_expr(ExprNo(0), &mut own)?;
-        let mut into = Children::new(alloc);
-        add_statement(&mut units, StmtKind::Null, PART, own, &mut into)?;
-        let exit = StmtKind::Exit {
-            has_loop_name: true,
-            has_condition: false,
-        };
-        add_statement(&mut units, exit, PART, Children::new(alloc), &mut into)?;
+        let mut units = Units::new(alloc);
+        let mut into = statements(alloc, &mut units, &tokens)?;
         add_declaration(
             &mut units,
             DeclKind::PrivatePart,

@@ -1,6 +1,6 @@
 ghost use Rattle.std.specs.Prelude.{◌≡◌, IfOk, length};
 ghost use Rattle.ada_grammar.specs.Answer.{IsFault};
-ghost use Rattle.ada_grammar.specs.Grammar.{Part};
+ghost use Rattle.ada_grammar.specs.Parts.{Part};
 ghost use Rattle.ada_grammar.specs.Lexemes.{lexemes, text_of};
 ghost use Rattle.ada_grammar.specs.Reading.{Fails};
 ghost use Rattle.ada_grammar.specs.Refusals as messages;

@@ -1,5 +1,6 @@
 ghost use Rattle.std.specs.Prelude.{◌≡◌};
 ghost use Rattle.ada_grammar.specs.Lexemes.{lexemes, lexeme, sort};
+ghost use Rattle.ada_grammar.specs.Numbers as numbers;
 ghost use Rattle.ada_grammar.specs.Sorts as sorts;
 ghost use Rattle.ada_grammar.specs.Taking.{Accepts, Expects};
 ghost use Rattle.ada_tree.specs.declared.identifiers.WordRole.TheVariants as roles;
@@ -156,14 +157,14 @@ fn is_relational(mark: Mark) -> bool
 
 /// Whether a reserved word is this one.
 fn is_reserved(found: Reserved, word: Reserved) -> bool
-    ensures { result ≡ sorts.same_word word found }
+    ensures { result ≡ numbers.same_word word found }
 {
     found == word
 }
 
 /// Whether a mark is this one.
 fn is_mark(found: Mark, mark: Mark) -> bool
-    ensures { result ≡ sorts.same_mark mark found }
+    ensures { result ≡ numbers.same_mark mark found }
 {
     found == mark
 }

@@ -6,7 +6,7 @@ use Rattle.ada_grammar.specs.declared.tokens.Cursor.{Cursor}
 use Rattle.ada_grammar.specs.declared.tokens.Fault.{Fault}
 use Rattle.ada_grammar.specs.Lexemes.{Lexeme}
 use Rattle.ada_grammar.specs.Phrases.{Children, gives}
-use Rattle.ada_grammar.specs.Grammar.{Part, Gives, Call}
+use Rattle.ada_grammar.specs.Parts.{Part, Gives, Call}
 use Rattle.ada_grammar.specs.Reading.{point, Awaits}
 use Rattle.ada_grammar.specs.Standing.{Finds, Forth, Holds, Skips}
 use Rattle.ada_grammar.proofs.Steps.{good, done}

@@ -9,7 +9,8 @@ use Rattle.ada_grammar.specs.declared.tokens.Cursor.{Cursor}
 use Rattle.ada_grammar.specs.Lexemes.{Lexeme}
 use Rattle.ada_grammar.specs.Phrases as phrases
 use Rattle.ada_grammar.specs.Phrases.{Tree, Phrase, Children, with_stmt, none}
-use Rattle.ada_grammar.specs.Grammar.{Spells, gives, take, call, rest, left, right, Statements, MoreStatements}
+use Rattle.ada_grammar.specs.Spelling.{Spells, gives, take, call, rest, left, right}
+use Rattle.ada_grammar.specs.Parts.{Statements, MoreStatements}
 use Rattle.ada_grammar.specs.Standing.{Ref, StmtRef, Stands, nowhere, expression, over, Found}
 
 abbrev OneMore : Children → Phrase → Type 0

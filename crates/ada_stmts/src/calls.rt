@@ -1,9 +1,10 @@
-ghost use Rattle.std.specs.Prelude.{◌≤◌, length};
+ghost use Rattle.std.specs.Prelude.{◌≤◌, length, IfOk};
 ghost use Rattle.ada_grammar.specs.Answer.{AnswersDeclarations, AnswersSequence};
-ghost use Rattle.ada_grammar.specs.Grammar as parts;
+ghost use Rattle.ada_grammar.specs.Parts as parts;
 ghost use Rattle.ada_grammar.specs.Limits.{before_statements, outermost};
 ghost use Rattle.ada_grammar.specs.Phrases as phrases;
 ghost use Rattle.ada_grammar.specs.Standing.{Grows};
+ghost use Rattle.ada_tree.specs.Tree.{IsOrdered};
 
 use crate::declarations::local_declarations;
 use crate::statements::statements;
@@ -26,7 +27,9 @@ pub fn read_local_decls(
     at: usize,
 ) -> Result<(Items<DeclNo>, usize), PhaseFault>
     requires at { at ≤ length tokens.now.list }
+    requires ordered { IsOrdered units.old }
     ensures reads { AnswersDeclarations (parts.LocalDeclarations phrases.none) (outermost 0) tokens.now at units.new result }
+    ensures ordered { IfOk result (λ _. IsOrdered units.new) }
     ensures grows { Grows units.old units.new }
 {
     let cursor = Cursor {
@@ -52,7 +55,9 @@ pub fn read_stmts(
     at: usize,
 ) -> Result<(StmtNo, usize), PhaseFault>
     requires at { at ≤ length tokens.now.list }
+    requires ordered { IsOrdered units.old }
     ensures reads { AnswersSequence (parts.Statements phrases.none) before_statements tokens.now at units.new result }
+    ensures ordered { IfOk result (λ _. IsOrdered units.new) }
     ensures grows { Grows units.old units.new }
 {
     let cursor = Cursor {

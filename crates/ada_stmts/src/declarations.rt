@@ -1,5 +1,5 @@
 ghost use Rattle.std.specs.Prelude.{◌≡◌, ◌≤◌, [], ◌∷◌, length, map, IfOk};
-ghost use Rattle.ada_grammar.specs.Grammar as parts;
+ghost use Rattle.ada_grammar.specs.Parts as parts;
 ghost use Rattle.ada_grammar.specs.Lexemes.{Lexeme, lexeme, lexemes};
 ghost use Rattle.ada_grammar.specs.Phrases as phrases;
 ghost use Rattle.ada_grammar.specs.Standing.{Finds, Forth, Grows, Holds};
@@ -13,10 +13,6 @@ use ada_grammar::{
 use ada_tree::{DeclKind, LocalForm, Mark, Naming, Reserved, Token, Tokens, Units, local_form};
 use spark_base::{Items, NoMemory, Span};
 use std::alloc::Global;
-
-/// Each of several names that are declared together has the numbers of all their aspects. So that trees are linear in their
-/// source, more names than these with more aspects than these are want of memory.
-const MOST_SHARED: usize = 64;
 
 /// One name.
 pub fn only(alloc: Global, name: Token) -> Result<Items<Token>, NoMemory>
@@ -71,9 +67,6 @@ pub fn closing(
     if let Some((_, behind_keyword)) = accept(tokens, cursor, Class::Reserved(Reserved::With))? {
         let behind_behind_with = behind_with(alloc, units, tokens, behind_keyword, &mut own)?;
         let (_, behind_end) = expect(tokens, behind_behind_with, Class::Mark(Mark::Semicolon))?;
-        if names.len() > MOST_SHARED && own.aspects.len() > MOST_SHARED {
-            return Err(Fault::NoMemory);
-        }
         declare_all(alloc, units, tokens, kind, names, own, into)?;
         return Ok(behind_end);
     }
@@ -131,15 +124,8 @@ fn object(
         )? {
             let behind_value = expression(alloc, units, tokens, behind_becomes, &mut own)?;
             let (_, behind_end) = expect(tokens, behind_value, Class::Mark(Mark::Semicolon))?;
-            declare_all(
-                alloc,
-                units,
-                tokens,
-                DeclKind::NamedNumber,
-                names,
-                own,
-                into,
-            )?;
+            let kind = DeclKind::NamedNumber;
+            declare_all(alloc, units, tokens, kind, names, own, into)?;
             return Ok(behind_end);
         }
         return object_from(alloc, units, tokens, behind_keyword, true, names, into);
@@ -166,33 +152,17 @@ fn object_from(
     let behind_subtype = indication(alloc, units, tokens, cursor, &mut own)?;
     if let Some((_, behind_becomes)) = accept(tokens, behind_subtype, Class::Mark(Mark::Becomes))? {
         let behind_value = expression(alloc, units, tokens, behind_becomes, &mut own)?;
-        return closing(
-            alloc,
-            units,
-            tokens,
-            behind_value,
-            DeclKind::Object {
-                is_constant: constant,
-                has_initial_value: true,
-            },
-            names,
-            own,
-            into,
-        );
-    }
-    closing(
-        alloc,
-        units,
-        tokens,
-        behind_subtype,
-        DeclKind::Object {
+        let kind = DeclKind::Object {
             is_constant: constant,
-            has_initial_value: false,
-        },
-        names,
-        own,
-        into,
-    )
+            has_initial_value: true,
+        };
+        return closing(alloc, units, tokens, behind_value, kind, names, own, into);
+    }
+    let kind = DeclKind::Object {
+        is_constant: constant,
+        has_initial_value: false,
+    };
+    closing(alloc, units, tokens, behind_subtype, kind, names, own, into)
 }
 
 /// A component, behind the colon.
@@ -238,64 +208,32 @@ fn formal(
     ensures goes { IfOk result (λ next. Forth (lexemes tokens.now) cursor next) }
     ensures reads { (ds : phrases.Children) → Holds units.old into.old ds → Finds (parts.Formal (map (lexeme tokens.now.source) names.now) ds) (lexemes tokens.now) cursor units.new into.new result }
 {
-    if let Some((_, behind_keyword)) = accept(tokens, cursor, Class::Reserved(Reserved::In))? {
-        if let Some((_, behind_also)) = accept(
-            tokens,
-            behind_keyword,
-            Class::Reserved(Reserved::Out),
-        )? {
-            return formal_mark(
-                alloc,
-                units,
-                tokens,
-                behind_also,
-                DeclKind::Formal {
-                    is_in: true,
-                    is_out: true,
-                },
-                names,
-                into,
-            );
-        }
-        return formal_mark(
-            alloc,
-            units,
-            tokens,
-            behind_keyword,
-            DeclKind::Formal {
+    if let Some((_, behind_in)) = accept(tokens, cursor, Class::Reserved(Reserved::In))? {
+        if let Some((_, behind_also)) = accept(tokens, behind_in, Class::Reserved(Reserved::Out))? {
+            let kind = DeclKind::Formal {
                 is_in: true,
-                is_out: false,
-            },
-            names,
-            into,
-        );
+                is_out: true,
+            };
+            return formal_mark(alloc, units, tokens, behind_also, kind, names, into);
+        }
+        let kind = DeclKind::Formal {
+            is_in: true,
+            is_out: false,
+        };
+        return formal_mark(alloc, units, tokens, behind_in, kind, names, into);
     }
     if let Some((_, behind_keyword_2)) = accept(tokens, cursor, Class::Reserved(Reserved::Out))? {
-        return formal_mark(
-            alloc,
-            units,
-            tokens,
-            behind_keyword_2,
-            DeclKind::Formal {
-                is_in: false,
-                is_out: true,
-            },
-            names,
-            into,
-        );
-    }
-    formal_mark(
-        alloc,
-        units,
-        tokens,
-        cursor,
-        DeclKind::Formal {
+        let kind = DeclKind::Formal {
             is_in: false,
-            is_out: false,
-        },
-        names,
-        into,
-    )
+            is_out: true,
+        };
+        return formal_mark(alloc, units, tokens, behind_keyword_2, kind, names, into);
+    }
+    let kind = DeclKind::Formal {
+        is_in: false,
+        is_out: false,
+    };
+    formal_mark(alloc, units, tokens, cursor, kind, names, into)
 }
 
 /// The mark of a formal, behind its mode.
@@ -419,52 +357,29 @@ fn type_definition(
         let mut own = Children::new(alloc);
         let behind_value = expression(alloc, units, tokens, behind_keyword_2, &mut own)?;
         let names = only(alloc, name)?;
-        return closing(
-            alloc,
-            units,
-            tokens,
-            behind_value,
-            DeclKind::ModularType,
-            &names,
-            own,
-            into,
-        );
+        let kind = DeclKind::ModularType;
+        return closing(alloc, units, tokens, behind_value, kind, &names, own, into);
     }
     if let Some((_, behind_keyword_3)) = accept(tokens, cursor, Class::Reserved(Reserved::Array))? {
         return array_type(alloc, units, tokens, behind_keyword_3, name, into);
     }
-    if let Some((_, behind_keyword_4)) = accept(tokens, cursor, Class::Reserved(Reserved::Null))? {
-        let (_, behind_behind) = expect(
-            tokens,
-            behind_keyword_4,
-            Class::Reserved(Reserved::Record),
-        )?;
-        let mut own = Children::new(alloc);
+    if let Some((_, behind_null)) = accept(tokens, cursor, Class::Reserved(Reserved::Null))? {
+        let (_, behind_behind) = expect(tokens, behind_null, Class::Reserved(Reserved::Record))?;
+        let own = Children::new(alloc);
         let names = only(alloc, name)?;
-        return closing(
-            alloc,
-            units,
-            tokens,
-            behind_behind,
-            DeclKind::NullRecordType,
-            &names,
-            own,
-            into,
-        );
+        let kind = DeclKind::NullRecordType;
+        return closing(alloc, units, tokens, behind_behind, kind, &names, own, into);
     }
-    if let Some((_, behind_keyword_5)) = accept(
-        tokens,
-        cursor,
-        Class::Reserved(Reserved::Private),
-    )? {
-        let mut own = Children::new(alloc);
+    if let Some((_, behind_private)) = accept(tokens, cursor, Class::Reserved(Reserved::Private))? {
+        let own = Children::new(alloc);
         let names = only(alloc, name)?;
+        let kind = DeclKind::PrivateType;
         return closing(
             alloc,
             units,
             tokens,
-            behind_keyword_5,
-            DeclKind::PrivateType,
+            behind_private,
+            kind,
             &names,
             own,
             into,
@@ -472,6 +387,23 @@ fn type_definition(
     }
     let (_, behind_keyword_6) = expect(tokens, cursor, Class::Reserved(Reserved::Record))?;
     components(alloc, units, tokens, behind_keyword_6, name, into)
+}
+
+/// A literal of an enumeration type.
+fn literal(
+    alloc: Global,
+    units: &mut Units,
+    tokens: &Tokens,
+    name: Token,
+    into: &mut Children,
+) -> Result<(), NoMemory>
+    ensures grows { Grows units.old units.new }
+    ensures builds { IfOk result (λ _. (ds : phrases.Children) → Holds units.old into.old ds
+        → Holds units.new into.new (phrases.declared DeclKind.EnumerationLiteral (lexeme tokens.now.source name) phrases.none ds)) }
+{
+    let kind = DeclKind::EnumerationLiteral;
+    declare(alloc, units, tokens, kind, name, Children::new(alloc), into)?;
+    Ok(())
 }
 
 /// The literals of an enumeration type, behind the parenthesis.
@@ -488,43 +420,19 @@ fn literals(
     ensures goes { IfOk result (λ next. Forth (lexemes tokens.now) cursor next) }
     ensures reads { (ds : phrases.Children) → Holds units.old into.old ds → Finds (parts.Literals (lexeme tokens.now.source name) ds) (lexemes tokens.now) cursor units.new into.new result }
 {
-    let (literal, behind_literal) = expect(tokens, cursor, Class::Word)?;
+    let (first, behind_literal) = expect(tokens, cursor, Class::Word)?;
     let mut own = Children::new(alloc);
-    declare(
-        alloc,
-        units,
-        tokens,
-        DeclKind::EnumerationLiteral,
-        literal,
-        Children::new(alloc),
-        &mut own,
-    )?;
+    literal(alloc, units, tokens, first, &mut own)?;
     let mut next = behind_literal;
     while let Some((_, behind_comma)) = accept(tokens, next, Class::Mark(Mark::Comma))? {
-        let (literal, behind_literal_2) = expect(tokens, behind_comma, Class::Word)?;
-        declare(
-            alloc,
-            units,
-            tokens,
-            DeclKind::EnumerationLiteral,
-            literal,
-            Children::new(alloc),
-            &mut own,
-        )?;
+        let (further, behind_literal_2) = expect(tokens, behind_comma, Class::Word)?;
+        literal(alloc, units, tokens, further, &mut own)?;
         next = behind_literal_2;
     }
     let (_, behind_end) = expect(tokens, next, Class::Mark(Mark::Close))?;
     let names = only(alloc, name)?;
-    closing(
-        alloc,
-        units,
-        tokens,
-        behind_end,
-        DeclKind::EnumerationType,
-        &names,
-        own,
-        into,
-    )
+    let kind = DeclKind::EnumerationType;
+    closing(alloc, units, tokens, behind_end, kind, &names, own, into)
 }
 
 /// The bounds of an integer type.
@@ -607,39 +515,16 @@ fn components(
 {
     let (first, behind_first) = expect(tokens, cursor, Class::Word)?;
     let mut own = Children::new(alloc);
-    let mut next = declared_names(
-        alloc,
-        units,
-        tokens,
-        behind_first,
-        Naming::Components,
-        first,
-        &mut own,
-    )?;
+    let what = Naming::Components;
+    let mut next = declared_names(alloc, units, tokens, behind_first, what, first, &mut own)?;
     while let Some((first, behind_first_2)) = accept(tokens, next, Class::Word)? {
-        next = declared_names(
-            alloc,
-            units,
-            tokens,
-            behind_first_2,
-            Naming::Components,
-            first,
-            &mut own,
-        )?;
+        next = declared_names(alloc, units, tokens, behind_first_2, what, first, &mut own)?;
     }
     let (_, behind_end) = expect(tokens, next, Class::Reserved(Reserved::End))?;
-    let (_, behind_keyword) = expect(tokens, behind_end, Class::Reserved(Reserved::Record))?;
+    let (_, behind_record) = expect(tokens, behind_end, Class::Reserved(Reserved::Record))?;
     let names = only(alloc, name)?;
-    closing(
-        alloc,
-        units,
-        tokens,
-        behind_keyword,
-        DeclKind::RecordType,
-        &names,
-        own,
-        into,
-    )
+    let kind = DeclKind::RecordType;
+    closing(alloc, units, tokens, behind_record, kind, &names, own, into)
 }
 
 /// A type, behind its word.

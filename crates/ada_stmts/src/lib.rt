@@ -6,7 +6,5 @@
 mod calls;
 pub mod declarations;
 pub mod statements;
-#[cfg(test)]
-mod tests;
 
 pub use calls::{read_local_decls, read_stmts};

@@ -1,5 +1,5 @@
 ghost use Rattle.std.specs.Prelude.{◌≡◌, ◌≤◌, true, length, IfOk};
-ghost use Rattle.ada_grammar.specs.Grammar as parts;
+ghost use Rattle.ada_grammar.specs.Parts as parts;
 ghost use Rattle.ada_grammar.specs.Lexemes.{lexeme, lexemes};
 ghost use Rattle.ada_grammar.specs.Phrases as phrases;
 ghost use Rattle.ada_grammar.specs.Standing.{Finds, Forth, Grows, Holds};
@@ -63,51 +63,63 @@ fn statement(
         StatementForm::Named => named_statement(alloc, units, tokens, cursor, first, into),
         StatementForm::If => if_statement(alloc, units, tokens, cursor, first, into),
         StatementForm::Case => case_statement(alloc, units, tokens, cursor, first, into),
-        StatementForm::While => {
-            let mut own = Children::new(alloc);
-            while_loop(alloc, units, tokens, cursor, false, first, own, into)
-        }
-        StatementForm::For => {
-            let mut own = Children::new(alloc);
-            for_loop(alloc, units, tokens, cursor, false, first, own, into)
-        }
-        StatementForm::Loop => {
-            let mut own = Children::new(alloc);
-            loop_body(
-                alloc,
-                units,
-                tokens,
-                cursor,
-                StmtKind::Loop {
-                    has_label: false,
-                    has_end_name: false,
-                },
-                first.span,
-                own,
-                into,
-            )
-        }
-        StatementForm::Declare => {
-            let mut own = Children::new(alloc);
-            declare_block(alloc, units, tokens, cursor, false, first, own, into)
-        }
-        StatementForm::Begin => {
-            let mut own = Children::new(alloc);
-            block_body(
-                alloc,
-                units,
-                tokens,
-                cursor,
-                StmtKind::Block {
-                    has_label: false,
-                    has_declare: false,
-                    has_end_name: false,
-                },
-                first.span,
-                own,
-                into,
-            )
-        }
+        StatementForm::While => while_loop(
+            alloc,
+            units,
+            tokens,
+            cursor,
+            false,
+            first,
+            Children::new(alloc),
+            into,
+        ),
+        StatementForm::For => for_loop(
+            alloc,
+            units,
+            tokens,
+            cursor,
+            false,
+            first,
+            Children::new(alloc),
+            into,
+        ),
+        StatementForm::Loop => loop_body(
+            alloc,
+            units,
+            tokens,
+            cursor,
+            StmtKind::Loop {
+                has_label: false,
+                has_end_name: false,
+            },
+            first.span,
+            Children::new(alloc),
+            into,
+        ),
+        StatementForm::Declare => declare_block(
+            alloc,
+            units,
+            tokens,
+            cursor,
+            false,
+            first,
+            Children::new(alloc),
+            into,
+        ),
+        StatementForm::Begin => block_body(
+            alloc,
+            units,
+            tokens,
+            cursor,
+            StmtKind::Block {
+                has_label: false,
+                has_declare: false,
+                has_end_name: false,
+            },
+            first.span,
+            Children::new(alloc),
+            into,
+        ),
         StatementForm::Exit => exit_statement(alloc, units, tokens, cursor, first, into),
         StatementForm::Return => return_statement(alloc, units, tokens, cursor, first, into),
         StatementForm::Delay => delay_statement(alloc, units, tokens, cursor, first, into),
@@ -226,38 +238,27 @@ fn if_statement(
     let behind_value = expression(alloc, units, tokens, cursor, &mut own)?;
     let (_, behind_keyword) = expect(tokens, behind_value, Class::Reserved(Reserved::Then))?;
     let mut next = statements(alloc, units, tokens, behind_keyword, &mut own)?;
-    while let Some((_, behind_keyword_2)) = accept(
-        tokens,
-        next,
-        Class::Reserved(Reserved::Elsif),
-    )? {
-        let behind_value_2 = expression(alloc, units, tokens, behind_keyword_2, &mut own)?;
+    while let Some((_, behind_elsif)) = accept(tokens, next, Class::Reserved(Reserved::Elsif))? {
+        let behind_value_2 = expression(alloc, units, tokens, behind_elsif, &mut own)?;
         let (_, behind_behind) = expect(tokens, behind_value_2, Class::Reserved(Reserved::Then))?;
         next = statements(alloc, units, tokens, behind_behind, &mut own)?;
     }
     if let Some((_, behind_keyword_3)) = accept(tokens, next, Class::Reserved(Reserved::Else))? {
         let behind_statements = statements(alloc, units, tokens, behind_keyword_3, &mut own)?;
+        let kind = StmtKind::If { has_else: true };
         return end_if(
             alloc,
             units,
             tokens,
             behind_statements,
-            StmtKind::If { has_else: true },
+            kind,
             first.span,
             own,
             into,
         );
     }
-    end_if(
-        alloc,
-        units,
-        tokens,
-        next,
-        StmtKind::If { has_else: false },
-        first.span,
-        own,
-        into,
-    )
+    let kind = StmtKind::If { has_else: false };
+    end_if(alloc, units, tokens, next, kind, first.span, own, into)
 }
 
 /// A case, behind its word.
@@ -371,6 +372,10 @@ fn for_loop(
     ensures goes { IfOk result (λ next. Forth (lexemes tokens.now) cursor next) }
     ensures reads { (os ds : phrases.Children) → Holds units.old own os → Holds units.old into.old ds → Finds (parts.For labelled (lexeme tokens.now.source first) os ds) (lexemes tokens.now) cursor units.new into.new result }
 {
+    let kind = StmtKind::For {
+        has_label: labelled,
+        has_end_name: false,
+    };
     let (name, behind_name) = expect(tokens, cursor, Class::Word)?;
     let (_, behind_keyword) = expect(tokens, behind_name, Class::Reserved(Reserved::In))?;
     if let Some((_, behind_reverse)) = accept(
@@ -378,33 +383,29 @@ fn for_loop(
         behind_keyword,
         Class::Reserved(Reserved::Reverse),
     )? {
+        let parameter = DeclKind::LoopParameter { is_reverse: true };
         return for_range(
             alloc,
             units,
             tokens,
             behind_reverse,
-            DeclKind::LoopParameter { is_reverse: true },
+            parameter,
             name,
-            StmtKind::For {
-                has_label: labelled,
-                has_end_name: false,
-            },
+            kind,
             first.span,
             own,
             into,
         );
     }
+    let parameter = DeclKind::LoopParameter { is_reverse: false };
     for_range(
         alloc,
         units,
         tokens,
         behind_keyword,
-        DeclKind::LoopParameter { is_reverse: false },
+        parameter,
         name,
-        StmtKind::For {
-            has_label: labelled,
-            has_end_name: false,
-        },
+        kind,
         first.span,
         own,
         into,
@@ -613,13 +614,9 @@ fn exit_statement(
     ensures reads { (ds : phrases.Children) → Holds units.old into.old ds → Finds (parts.Exit (lexeme tokens.now.source first) ds) (lexemes tokens.now) cursor units.new into.new result }
 {
     let mut own = Children::new(alloc);
-    if let Some((name, behind_name)) = accept(tokens, cursor, Class::Word)? {
+    if let Some((name, next)) = accept(tokens, cursor, Class::Word)? {
         add_end_name(alloc, units, tokens, name, &mut own)?;
-        if let Some((_, behind_keyword)) = accept(
-            tokens,
-            behind_name,
-            Class::Reserved(Reserved::When),
-        )? {
+        if let Some((_, behind_keyword)) = accept(tokens, next, Class::Reserved(Reserved::When))? {
             let behind_value = expression(alloc, units, tokens, behind_keyword, &mut own)?;
             let (_, behind_end) = expect(tokens, behind_value, Class::Mark(Mark::Semicolon))?;
             let kind = StmtKind::Exit {
@@ -629,7 +626,7 @@ fn exit_statement(
             add_statement(units, kind, first.span, own, into)?;
             return Ok(behind_end);
         }
-        let (_, behind_end_2) = expect(tokens, behind_name, Class::Mark(Mark::Semicolon))?;
+        let (_, behind_end_2) = expect(tokens, next, Class::Mark(Mark::Semicolon))?;
         let kind = StmtKind::Exit {
             has_loop_name: true,
             has_condition: false,

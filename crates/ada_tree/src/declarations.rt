@@ -1,6 +1,7 @@
-use spark_base::{AspectNo, DeclNo, ExprNo, Items, Name, Span, StmtNo};
+use spark_base::{AspectNo, DeclNo, ExprNo, Name, Shared, Span, StmtNo};
 
-/// A declaration or a part of one. Each of the lists has the children of its type, in the order of the source.
+/// A declaration or a part of one. Each of the lists has the children of its type, in the order of the source; the names
+/// of one declaration share them.
 #[derive(Debug, Drop)]
 pub struct DeclNode {
     /// Where the name stands, or else the first token.
@@ -8,10 +9,10 @@ pub struct DeclNode {
     pub kind: DeclKind,
     /// What the node declares. Each declared name has a node of its own.
     pub name: Option<Name>,
-    pub exprs: Items<ExprNo>,
-    pub stmts: Items<StmtNo>,
-    pub decls: Items<DeclNo>,
-    pub aspects: Items<AspectNo>,
+    pub exprs: Shared<ExprNo>,
+    pub stmts: Shared<StmtNo>,
+    pub decls: Shared<DeclNo>,
+    pub aspects: Shared<AspectNo>,
 }
 
 /// The head of a subprogram. Its formals are the first declarations of the node that has it.

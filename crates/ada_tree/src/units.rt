@@ -1,10 +1,14 @@
+ghost use Rattle.std.specs.Prelude.{◌≡◌, []};
+ghost use Rattle.ada_tree.specs.Tree.{IsOrdered};
+
 use crate::{AspectNode, DeclNode, ExprNode, StmtNode};
 use spark_base::{AspectNo, DeclNo, ExprNo, Items, Name, Span, StmtNo};
+use std::alloc::Global;
 
 /// The trees of all sources. A node is named by its place, from 0, in the list of its type.
 ///
 /// Children stand before their node: within one list a child's number is below its node's own. The nodes of a list of
-/// names, as of `A, B : T := E`, share their other children.
+/// names, as of `A, B : T := E`, share the lists of their children.
 #[derive(Debug, Drop)]
 pub struct Units {
     /// In the order of the files, and of each file's source.
@@ -13,6 +17,22 @@ pub struct Units {
     pub stmts: Items<StmtNode>,
     pub exprs: Items<ExprNode>,
     pub aspects: Items<AspectNode>,
+}
+
+impl Units {
+    /// No trees.
+    pub fn new(alloc: Global) -> Self
+        ensures ordered { IsOrdered result }
+        ensures empty { result ≡ record { units = []; decls = []; stmts = []; exprs = []; aspects = [] } }
+    {
+        Units {
+            units: Items::new(alloc),
+            decls: Items::new(alloc),
+            stmts: Items::new(alloc),
+            exprs: Items::new(alloc),
+            aspects: Items::new(alloc),
+        }
+    }
 }
 
 /// A unit of a file. Each of the lists has the children of its type, in the order of the source.

@@ -24,7 +24,7 @@ IsRoot BodyKind.Entry = ⊥
 
 -- What code makes fresh
 
--- wherever it stands: leaves of the body's own, and no formal
+-- wherever it stands: leaves of the body's own, and no formal, since a call begins with its out formals unassigned
 abbrev pub MayClear : Option Home → Type 0
 MayClear None = ⊥
 MayClear (Some (Home.Package k)) = ⊥

@@ -7,7 +7,7 @@ use Rattle.ada_grammar.specs.declared.tokens.Cursor.{Cursor}
 use Rattle.ada_grammar.specs.declared.tokens.Fault.{Fault}
 use Rattle.ada_grammar.specs.Lexemes.{Lexeme}
 use Rattle.ada_grammar.specs.Phrases.{Tree}
-use Rattle.ada_grammar.specs.Grammar.{File}
+use Rattle.ada_grammar.specs.Parts.{File}
 use Rattle.ada_grammar.specs.Reading.{Fails}
 use Rattle.ada_grammar.specs.Standing.{Ref, UnitRef, Grows, Stands, Widens}
 use Rattle.ada_grammar.proofs.Standing.{stands_push, stands_wide}

@@ -3,11 +3,12 @@ use Rattle.std.proofs.Common.{◌≡◌, ℕ, ◌≤◌, ◌+◌, length, List, 
 use Rattle.std.specs.Result.{IsErrAnd}
 use Rattle.ada_tree.specs.declared.units.Unit as declared_unit
 use Rattle.ada_tree.specs.declared.units.Units.{Units}
+use Rattle.ada_tree.specs.Tree.{IsOrdered}
 use Rattle.ada_grammar.specs.declared.tokens.Cursor.{Cursor}
 use Rattle.ada_grammar.specs.declared.tokens.Fault.{Fault}
 use Rattle.ada_grammar.specs.Lexemes.{Lexeme}
 use Rattle.ada_grammar.specs.Phrases.{Children, Tree, gives, with_unit}
-use Rattle.ada_grammar.specs.Grammar.{Part, Gives, Rest}
+use Rattle.ada_grammar.specs.Parts.{Part, Gives, Rest}
 use Rattle.ada_grammar.specs.Reading.{Awaits, Fails, point}
 use Rattle.ada_grammar.specs.Standing.{Stands, UnitRef}
 use Rattle.ada_grammar.proofs.Answering.{refuses_last}
@@ -26,6 +27,7 @@ pub unit_last : {part inner : Part} (ts : List Lexeme) (cursor middle : Cursor) 
 unit_last ts cursor middle u d (Ok end) e s h check i = record {
   tree = i.tree;
   stands = subst (λ (z : List declared_unit.Unit). Stands u (UnitRef (length z) ∷ []) (i.tree ∷ [])) e i.stands;
+  ordered = i.ordered;
   forward = omega (arith, i.forward, h);
   ends = i.ends;
   reads = tail s i.reads check;
@@ -34,11 +36,12 @@ unit_last ts cursor middle u d (Err f) e s h check i = refuses_last ts cursor mi
 
 -- the unit was added
 pub unit_found : {part : Part} (ts : List Lexeme) (cursor next : Cursor) {u : Units} {d : Children} (t : Tree) {old now : List declared_unit.Unit} → now ≡ old
-    → Stands u (UnitRef (length now) ∷ []) (t ∷ []) → cursor.at ≤ next.at → next.at ≤ length ts
+    → Stands u (UnitRef (length now) ∷ []) (t ∷ []) → IsOrdered u → cursor.at ≤ next.at → next.at ≤ length ts
     → Awaits part (point ts cursor) (point ts next) (Gives (gives (with_unit d t))) → FoundUnit part ts cursor u (length old) d next
-unit_found ts cursor next {u} {d} t e stands forward ends reads = record {
+unit_found ts cursor next {u} {d} t e stands ordered forward ends reads = record {
   tree = t;
   stands = subst (λ (z : List declared_unit.Unit). Stands u (UnitRef (length z) ∷ []) (t ∷ [])) e stands;
+  ordered = ordered;
   forward = forward;
   ends = ends;
   reads = reads;

@@ -8,11 +8,12 @@ use Rattle.ada_grammar.specs.declared.tokens.Nesting.{Nesting}
 use Rattle.ada_grammar.specs.Lexemes.{Lexeme, lexemes, sort}
 use Rattle.ada_grammar.specs.Limits.{outermost, step, walk, walk_on}
 use Rattle.ada_grammar.specs.Phrases.{Phrase, Tree}
-use Rattle.ada_grammar.specs.Grammar.{File, Spells}
-use Rattle.ada_grammar.specs.Reading.{Bars, Viable}
+use Rattle.ada_grammar.specs.Parts.{File}
+use Rattle.ada_grammar.specs.Spelling.{Spells}
+use Rattle.ada_grammar.specs.Fronts.{Bars, Viable}
 use Rattle.ada_grammar.specs.Answer.{IsLimit, Longest}
 use Rattle.ada_grammar.specs.Refusals.{limit_message, syntax_message}
-use Rattle.ada_grammar.proofs.Ahead.{lexemes_length}
+use Rattle.ada_grammar.proofs.Ahead.{heads, lexemes_length}
 use Rattle.ada_grammar.proofs.Steps.{walk_append}
 use Rattle.spark_parser.specs.Parsed.{ForLimit, ForSyntax, IsFile, IsNoFile, IsRefused, Told, nothing, reads, refuses}
 
@@ -22,9 +23,6 @@ data Order (u r v s : List Lexeme) : Type 0 where
   same : u ≡ v → r ≡ s → Order u r v s
   before : (t : Lexeme) (x : List Lexeme) → v ≡ u ++ t ∷ x → r ≡ t ∷ (x ++ s) → Order u r v s
   behind : (t : Lexeme) (x : List Lexeme) → u ≡ v ++ t ∷ x → s ≡ t ∷ (x ++ r) → Order u r v s
-
-heads : (t w : Lexeme) (a b : List Lexeme) → t ∷ a ≡ w ∷ b → t ≡ w
-heads t w a b e = cc
 
 tails : (t w : Lexeme) (a b : List Lexeme) → t ∷ a ≡ w ∷ b → a ≡ b
 tails t w a b e = cc

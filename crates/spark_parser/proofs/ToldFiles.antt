@@ -7,12 +7,14 @@ use Rattle.spark_messages.specs.declared.messages.PhaseFault.TheVariants as faul
 use Rattle.ada_tree.specs.declared.token.Tokens.{Tokens}
 use Rattle.ada_tree.specs.declared.units.Unit as declared_unit
 use Rattle.ada_tree.specs.declared.units.Units.{Units}
+use Rattle.ada_tree.specs.Tree.{IsOrdered}
 use Rattle.ada_grammar.specs.declared.tokens.Cursor.{Cursor}
 use Rattle.ada_grammar.specs.declared.tokens.Nesting.{Nesting}
 use Rattle.ada_grammar.specs.Lexemes.{Lexeme, lexemes}
 use Rattle.ada_grammar.specs.Limits.{outermost, walk}
 use Rattle.ada_grammar.specs.Phrases.{Phrase, Tree, gives}
-use Rattle.ada_grammar.specs.Grammar.{File, Spells}
+use Rattle.ada_grammar.specs.Parts.{File}
+use Rattle.ada_grammar.specs.Spelling.{Spells}
 use Rattle.ada_grammar.specs.Answer.{IsFault, IsPhrase, Longest, ForSyntax, ForLimit}
 use Rattle.ada_grammar.specs.Refusals.{Tells, syntax_message}
 use Rattle.ada_grammar.specs.Standing.{Stands, nowhere}
@@ -60,6 +62,7 @@ whole_file tokens {start} {next} {old} {now} at e past f = record {
         within = subst (λ (z : List Lexeme). walk (outermost 0) z ≡ Some k.front.ends) same k.front.within;
       };
   adds = f.adds;
+  ordered = f.ordered;
 }
 
 -- tokens stand behind the file
@@ -117,11 +120,13 @@ next_file : {all : List Tokens} {tokens : Tokens} {u v : Units} {ms ns : List Me
 next_file {all} {tokens} {u} {v} {ms} {ns} s (accepted f same) = record {
   units = s.units ++ f.units;
   told = subst (λ (z : List Message). Told (all ++ tokens ∷ []) (s.units ++ f.units) z) (sym same) (told_reads s.told f.is);
+  ordered = f.ordered;
   stands = λ e. f.adds s.units (s.stands (sym same ∙ e));
 }
-next_file {all} {tokens} {u} {v} {ms} {ns} s (refused {m = m} r same) = record {
+next_file {all} {tokens} {u} {v} {ms} {ns} s (refused {m = m} r ordered same) = record {
   units = s.units;
   told = subst (λ (z : List Message). Told (all ++ tokens ∷ []) s.units z) (sym same) (told_refuses s.told r);
+  ordered = ordered;
   stands = λ e. absurd (not_none ms m (sym same ∙ e));
 }
 
@@ -131,10 +136,11 @@ files_on all i tokens {u} {v} {ms} {ns} e within s a =
     subst (λ (z : List Tokens). AreSoFar z v ns) (sym (take_more all i tokens within ∙ ap (λ (z : Tokens). take i all ++ z ∷ []) (sym e))) (next_file s a)
 
 -- no file yet
-pub no_files : {u : Units} {ms : List Message} → u.units ≡ [] → ms ≡ [] → AreSoFar [] u ms
-no_files {u} {ms} none e = record {
+pub no_files : {u : Units} {ms : List Message} → IsOrdered u → u.units ≡ [] → ms ≡ [] → AreSoFar [] u ms
+no_files {u} {ms} ordered none e = record {
   units = [];
   told = subst (λ (z : List Message). Told [] [] z) (sym e) nothing;
+  ordered = ordered;
   stands = λ f. subst (λ (z : List declared_unit.Unit). Stands u (unit_refs (length z)) []) (sym none) nowhere;
 }
 
@@ -145,13 +151,9 @@ all_files all i {u} {ms} past s = subst (λ (z : List Tokens). AreSoFar z u ms) 
 pub are_read : (all : List Tokens) (i : ℕ) {u : Units} {ms : List Message} → length all ≤ i → ms ≡ [] → AreSoFar (take i all) u ms → AreRead all u
 are_read all i {u} {ms} past none s =
     let a = all_files all i past s in
-    record { units = a.units; told = subst (λ (z : List Message). Told all a.units z) none a.told; stands = a.stands none }
+    record { units = a.units; told = subst (λ (z : List Message). Told all a.units z) none a.told; stands = a.stands none; ordered = a.ordered }
 
-pub are_refused : (all : List Tokens) (i : ℕ) {u : Units} {ms ns : List Message} → length all ≤ i → (ms ≡ [] → false ≡ true) → ns ≡ ms → AreSoFar (take i all) u ms → AreRefused all ns
-are_refused all i {u} {ms} {ns} past some same s =
+pub are_refused : (all : List Tokens) (i : ℕ) {u : Units} {ms : List Message} → length all ≤ i → (ms ≡ [] → false ≡ true) → AreSoFar (take i all) u ms → AreRefused all ms
+are_refused all i {u} {ms} past some s =
     let a = all_files all i past s in
-    record {
-      units = a.units;
-      told = subst (λ (z : List Message). Told all a.units z) (sym same) a.told;
-      some = λ e. let f : false ≡ true = some (sym same ∙ e) in (cc);
-    }
+    record { units = a.units; told = a.told; some = λ e. let f : false ≡ true = some e in (cc) }

@@ -3,11 +3,13 @@ use Rattle.std.specs.Prelude.{◌≡◌, ℕ, zero, suc, ◌≤◌, length, drop
 use Rattle.spark_messages.specs.declared.messages.Message.{Message}
 use Rattle.ada_tree.specs.declared.token.Tokens.{Tokens}
 use Rattle.ada_tree.specs.declared.units.Units.{Units}
+use Rattle.ada_tree.specs.Tree.{IsOrdered}
 use Rattle.ada_grammar.specs.declared.tokens.Nesting.{Nesting}
 use Rattle.ada_grammar.specs.Lexemes.{Lexeme, lexemes}
 use Rattle.ada_grammar.specs.Limits.{outermost, walk}
 use Rattle.ada_grammar.specs.Phrases.{Phrase, Tree}
-use Rattle.ada_grammar.specs.Grammar.{File, Spells}
+use Rattle.ada_grammar.specs.Parts.{File}
+use Rattle.ada_grammar.specs.Spelling.{Spells}
 use Rattle.ada_grammar.specs.Answer.{IsLimit, Longest}
 use Rattle.ada_grammar.specs.Refusals.{syntax_message}
 use Rattle.ada_grammar.specs.Standing.{Ref, UnitRef, Stands}
@@ -46,14 +48,17 @@ pub data IsRefused (tokens : Tokens) (m : Message) : Type 0 where
 -- what is said of each file: the units of those that are read, and the refusals of the others, in the order of the files
 pub data Told : List Tokens → List Tree → List Message → Type 0 where
   nothing : Told [] [] []
-  reads : {tokens : Tokens} {units more : List Tree} {all : List Tokens} {ms : List Message} → IsFile tokens units → Told all more ms → Told (tokens ∷ all) (units ++ more) ms
-  refuses : {tokens : Tokens} {m : Message} {units : List Tree} {all : List Tokens} {ms : List Message} → IsRefused tokens m → Told all units ms → Told (tokens ∷ all) units (m ∷ ms)
+  reads : {tokens : Tokens} {units more : List Tree} {all : List Tokens} {ms : List Message}
+      → IsFile tokens units → Told all more ms → Told (tokens ∷ all) (units ++ more) ms
+  refuses : {tokens : Tokens} {m : Message} {units : List Tree} {all : List Tokens} {ms : List Message}
+      → IsRefused tokens m → Told all units ms → Told (tokens ∷ all) units (m ∷ ms)
 
--- each file was read, and the units are those of all of them
+-- each file was read, the units are those of all of them, and all nodes are ordered, also those that no unit has
 pub record AreRead (all : List Tokens) (u : Units) : Type 0 where
   pub units : List Tree
   pub told : Told all units []
   pub stands : Stands u (unit_refs (length u.units)) units
+  pub ordered : IsOrdered u
 
 -- some file was refused, and these are the refusals of all that were
 pub record AreRefused (all : List Tokens) (ms : List Message) : Type 0 where
@@ -64,5 +69,5 @@ pub record AreRefused (all : List Tokens) (ms : List Message) : Type 0 where
 -- what the parser answers; of want of memory nothing is said
 abbrev pub IsAnswer : List Tokens → Result Units ParseFault → Type 0
 IsAnswer all (Ok u) = AreRead all u
-IsAnswer all (Err (refusals.Refused ms)) = AreRefused all ms.items
+IsAnswer all (Err (refusals.Refused ms)) = AreRefused all ms
 IsAnswer all (Err refusals.NoMemory) = Unit {0}

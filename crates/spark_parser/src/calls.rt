@@ -1,4 +1,5 @@
 ghost use Rattle.std.specs.Prelude.{IfOk};
+ghost use Rattle.ada_tree.specs.Tree.{IsOrdered};
 ghost use Rattle.spark_parser.specs.Files.{Adds, TellsFile};
 ghost use Rattle.spark_parser.specs.Parsed.{IsAnswer};
 
@@ -13,7 +14,7 @@ use std::alloc::Global;
 #[derive(Debug, Drop)]
 pub enum ParseFault {
     /// The first refusal of each file that is refused, in the order of the files; there is one at least.
-    Refused(Vec<Message>),
+    Refused(Items<Message>),
     /// Memory was refused.
     NoMemory,
 }
@@ -31,6 +32,7 @@ impl From<NoMemory> for ParseFault {
 
 /// Reads a file and adds its units, or tells why there are none. Nodes of a file that is refused may stay.
 fn parse_file(alloc: Global, units: &mut Units, tokens: &Tokens) -> Result<(), PhaseFault>
+    requires { IsOrdered units.old }
     ensures { TellsFile tokens.now units.old units.new result }
 {
     let start = Cursor {
@@ -49,18 +51,20 @@ fn parse_file(alloc: Global, units: &mut Units, tokens: &Tokens) -> Result<(), P
     }
 }
 
-/// Adds a file's units, or its refusal.
+/// Adds a file's units, or its refusal. Behind a refusal no trees are wanted any more, so all are given up.
 fn add_file(
     alloc: Global,
     units: &mut Units,
     refusals: &mut Items<Message>,
     tokens: &Tokens,
 ) -> Result<(), NoMemory>
+    requires { IsOrdered units.old }
     ensures { IfOk result (λ _. Adds tokens.now units.old units.new refusals.old refusals.new) }
 {
     match parse_file(alloc, units, tokens) {
         Ok(()) => Ok(()),
         Err(PhaseFault::Refused(message)) => {
+            *units = Units::new(alloc);
             refusals.push(message)?;
             Ok(())
         }
@@ -75,13 +79,7 @@ fn add_file(
 pub fn parse(alloc: Global, all: &[Tokens]) -> Result<Units, ParseFault>
     ensures { IsAnswer all.now result }
 {
-    let mut units = Units {
-        units: Items::new(alloc),
-        decls: Items::new(alloc),
-        stmts: Items::new(alloc),
-        exprs: Items::new(alloc),
-        aspects: Items::new(alloc),
-    };
+    let mut units = Units::new(alloc);
     let mut refusals = Items::new(alloc);
     for tokens in all {
         add_file(alloc, &mut units, &mut refusals, tokens)?;
@@ -89,6 +87,6 @@ pub fn parse(alloc: Global, all: &[Tokens]) -> Result<Units, ParseFault>
     if refusals.is_empty() {
         Ok(units)
     } else {
-        Err(ParseFault::Refused(refusals.into_vec()))
+        Err(ParseFault::Refused(refusals))
     }
 }

@@ -1,5 +1,5 @@
 ghost use Rattle.std.specs.Prelude.{◌≡◌, ◌≤◌, [], ◌∷◌, true, false, length, IfOk};
-ghost use Rattle.ada_grammar.specs.Grammar as parts;
+ghost use Rattle.ada_grammar.specs.Parts as parts;
 ghost use Rattle.ada_grammar.specs.Lexemes.{lexeme, lexemes};
 ghost use Rattle.ada_grammar.specs.Phrases as phrases;
 ghost use Rattle.ada_grammar.specs.Standing.{Finds, Forth, Grows, Holds};
@@ -99,33 +99,15 @@ fn procedure(
     ensures goes { IfOk result (λ next. Forth (lexemes tokens.now) cursor next) }
     ensures reads { (ds : phrases.Children) → Holds units.old into.old ds → Finds (parts.Procedure region ds) (lexemes tokens.now) cursor units.new into.new result }
 {
-    let (name, behind_name) = expect(tokens, cursor, Class::Word)?;
+    let (name, behind) = expect(tokens, cursor, Class::Word)?;
     let mut own = Children::new(alloc);
-    if let Some((_, behind_opening)) = accept(tokens, behind_name, Class::Mark(Mark::Open))? {
-        let behind_formals = formals(alloc, units, tokens, behind_opening, &mut own)?;
-        return behind_head(
-            alloc,
-            units,
-            tokens,
-            behind_formals,
-            region,
-            Head::Procedure { has_formals: true },
-            name,
-            own,
-            into,
-        );
+    if let Some((_, behind_opening)) = accept(tokens, behind, Class::Mark(Mark::Open))? {
+        let next = formals(alloc, units, tokens, behind_opening, &mut own)?;
+        let head = Head::Procedure { has_formals: true };
+        return behind_head(alloc, units, tokens, next, region, head, name, own, into);
     }
-    behind_head(
-        alloc,
-        units,
-        tokens,
-        behind_name,
-        region,
-        Head::Procedure { has_formals: false },
-        name,
-        own,
-        into,
-    )
+    let head = Head::Procedure { has_formals: false };
+    behind_head(alloc, units, tokens, behind, region, head, name, own, into)
 }
 
 /// A function, behind its word.
@@ -142,33 +124,15 @@ fn function(
     ensures goes { IfOk result (λ next. Forth (lexemes tokens.now) cursor next) }
     ensures reads { (ds : phrases.Children) → Holds units.old into.old ds → Finds (parts.Function region ds) (lexemes tokens.now) cursor units.new into.new result }
 {
-    let (name, behind_name) = expect(tokens, cursor, Class::Word)?;
+    let (name, behind) = expect(tokens, cursor, Class::Word)?;
     let mut own = Children::new(alloc);
-    if let Some((_, behind_opening)) = accept(tokens, behind_name, Class::Mark(Mark::Open))? {
-        let behind_formals = formals(alloc, units, tokens, behind_opening, &mut own)?;
-        return function_result(
-            alloc,
-            units,
-            tokens,
-            behind_formals,
-            region,
-            Head::Function { has_formals: true },
-            name,
-            own,
-            into,
-        );
+    if let Some((_, behind_opening)) = accept(tokens, behind, Class::Mark(Mark::Open))? {
+        let next = formals(alloc, units, tokens, behind_opening, &mut own)?;
+        let head = Head::Function { has_formals: true };
+        return function_result(alloc, units, tokens, next, region, head, name, own, into);
     }
-    function_result(
-        alloc,
-        units,
-        tokens,
-        behind_name,
-        region,
-        Head::Function { has_formals: false },
-        name,
-        own,
-        into,
-    )
+    let head = Head::Function { has_formals: false };
+    function_result(alloc, units, tokens, behind, region, head, name, own, into)
 }
 
 /// The mark of a function's result.
@@ -427,20 +391,12 @@ fn task_named(
         behind_aspects,
         Class::Reserved(Reserved::Is),
     )? {
-        return task_definition(
-            alloc,
-            units,
-            tokens,
-            behind_keyword,
-            DeclKind::Task {
-                is_type,
-                has_definition: true,
-                has_end_name: false,
-            },
-            name,
-            own,
-            into,
-        );
+        let kind = DeclKind::Task {
+            is_type,
+            has_definition: true,
+            has_end_name: false,
+        };
+        return task_definition(alloc, units, tokens, behind_keyword, kind, name, own, into);
     }
     let (_, behind_end) = expect(tokens, behind_aspects, Class::Mark(Mark::Semicolon))?;
     let kind = DeclKind::Task {
@@ -565,46 +521,26 @@ fn protected_named(
     let mut own = Children::new(alloc);
     let behind_aspects = optional_aspects(alloc, units, tokens, behind_name, &mut own)?;
     let (_, behind_keyword) = expect(tokens, behind_aspects, Class::Reserved(Reserved::Is))?;
-    let behind_operations = operations(alloc, units, tokens, behind_keyword, &mut own)?;
-    if let Some((private, behind_private)) = accept(
-        tokens,
-        behind_operations,
-        Class::Reserved(Reserved::Private),
-    )? {
+    let next = operations(alloc, units, tokens, behind_keyword, &mut own)?;
+    if let Some((private, inside)) = accept(tokens, next, Class::Reserved(Reserved::Private))? {
         let mut hidden = Children::new(alloc);
-        let behind_items = private_items(alloc, units, tokens, behind_private, &mut hidden)?;
+        let behind_items = private_items(alloc, units, tokens, inside, &mut hidden)?;
         add_declaration(units, DeclKind::PrivatePart, private.span, hidden, &mut own)?;
         let (_, behind_end) = expect(tokens, behind_items, Class::Reserved(Reserved::End))?;
-        return end_of_declaration(
-            alloc,
-            units,
-            tokens,
-            behind_end,
-            DeclKind::Protected {
-                is_type,
-                has_private_part: true,
-                has_end_name: false,
-            },
-            name,
-            own,
-            into,
-        );
-    }
-    let (_, behind_end_2) = expect(tokens, behind_operations, Class::Reserved(Reserved::End))?;
-    end_of_declaration(
-        alloc,
-        units,
-        tokens,
-        behind_end_2,
-        DeclKind::Protected {
+        let kind = DeclKind::Protected {
             is_type,
-            has_private_part: false,
+            has_private_part: true,
             has_end_name: false,
-        },
-        name,
-        own,
-        into,
-    )
+        };
+        return end_of_declaration(alloc, units, tokens, behind_end, kind, name, own, into);
+    }
+    let (_, behind_end_2) = expect(tokens, next, Class::Reserved(Reserved::End))?;
+    let kind = DeclKind::Protected {
+        is_type,
+        has_private_part: false,
+        has_end_name: false,
+    };
+    end_of_declaration(alloc, units, tokens, behind_end_2, kind, name, own, into)
 }
 
 /// The operations of a protected unit.
@@ -813,40 +749,13 @@ fn operation_body(
     ensures goes { IfOk result (λ next. Forth (lexemes tokens.now) cursor next) }
     ensures reads { (ds : phrases.Children) → Holds units.old into.old ds → Finds (parts.OperationBody (operation_form first.kind) ds) (lexemes tokens.now) cursor units.new into.new result }
 {
+    let region = Region::ProtectedBody;
     match operation_form(first.kind) {
-        OperationForm::Function => function(
-            alloc,
-            units,
-            tokens,
-            cursor,
-            Region::ProtectedBody,
-            into,
-        ),
+        OperationForm::Function => function(alloc, units, tokens, cursor, region, into),
         OperationForm::Entry => entry_body(alloc, units, tokens, cursor, into),
-        OperationForm::Procedure => procedure(
-            alloc,
-            units,
-            tokens,
-            cursor,
-            Region::ProtectedBody,
-            into,
-        ),
-        OperationForm::Pragma => procedure(
-            alloc,
-            units,
-            tokens,
-            cursor,
-            Region::ProtectedBody,
-            into,
-        ),
-        OperationForm::Component => procedure(
-            alloc,
-            units,
-            tokens,
-            cursor,
-            Region::ProtectedBody,
-            into,
-        ),
+        OperationForm::Procedure => procedure(alloc, units, tokens, cursor, region, into),
+        OperationForm::Pragma => procedure(alloc, units, tokens, cursor, region, into),
+        OperationForm::Component => procedure(alloc, units, tokens, cursor, region, into),
     }
 }
 
@@ -1030,17 +939,8 @@ fn head_in_spec(
         declare(alloc, units, tokens, kind, name, own, into)?;
         return Ok(behind_end_2);
     }
-    let (_, behind_keyword_2) = expect(tokens, cursor, Class::Reserved(Reserved::Is))?;
-    null_or_value(
-        alloc,
-        units,
-        tokens,
-        behind_keyword_2,
-        head,
-        name,
-        own,
-        into,
-    )
+    let (_, behind_is) = expect(tokens, cursor, Class::Reserved(Reserved::Is))?;
+    null_or_value(alloc, units, tokens, behind_is, head, name, own, into)
 }
 
 /// What follows a head in the body of a package.
@@ -1060,12 +960,8 @@ fn head_in_body(
     ensures reads { (os ds : phrases.Children) → Holds units.old own os → Holds units.old into.old ds → Finds (parts.BehindHead Region.Body head (lexeme tokens.now.source name) os ds) (lexemes tokens.now) cursor units.new into.new result }
 {
     if let Some((_, behind_keyword)) = accept(tokens, cursor, Class::Reserved(Reserved::With))? {
-        let behind_aspects = behind_with(alloc, units, tokens, behind_keyword, &mut own)?;
-        if let Some((_, behind_end)) = accept(
-            tokens,
-            behind_aspects,
-            Class::Mark(Mark::Semicolon),
-        )? {
+        let next = behind_with(alloc, units, tokens, behind_keyword, &mut own)?;
+        if let Some((_, behind_end)) = accept(tokens, next, Class::Mark(Mark::Semicolon))? {
             let kind = DeclKind::SubprogramDeclaration {
                 head,
                 is_null: false,
@@ -1073,7 +969,7 @@ fn head_in_body(
             declare(alloc, units, tokens, kind, name, own, into)?;
             return Ok(behind_end);
         }
-        let (_, behind_behind) = expect(tokens, behind_aspects, Class::Reserved(Reserved::Is))?;
+        let (_, behind_behind) = expect(tokens, next, Class::Reserved(Reserved::Is))?;
         return subprogram_body(alloc, units, tokens, behind_behind, head, name, own, into);
     }
     if let Some((_, behind_end_2)) = accept(tokens, cursor, Class::Mark(Mark::Semicolon))? {
@@ -1084,17 +980,8 @@ fn head_in_body(
         declare(alloc, units, tokens, kind, name, own, into)?;
         return Ok(behind_end_2);
     }
-    let (_, behind_keyword_2) = expect(tokens, cursor, Class::Reserved(Reserved::Is))?;
-    any_completion(
-        alloc,
-        units,
-        tokens,
-        behind_keyword_2,
-        head,
-        name,
-        own,
-        into,
-    )
+    let (_, behind_is) = expect(tokens, cursor, Class::Reserved(Reserved::Is))?;
+    any_completion(alloc, units, tokens, behind_is, head, name, own, into)
 }
 
 /// What follows a head in a protected unit.

@@ -1,12 +1,13 @@
 //! The readers of a file: its pragmas, contexts and units.
 ghost use Rattle.std.specs.Prelude.{◌≤◌, length, IfOk};
-ghost use Rattle.ada_grammar.specs.Grammar as parts;
-ghost use Rattle.ada_grammar.specs.Grammar.{Rest};
+ghost use Rattle.ada_grammar.specs.Parts as parts;
+ghost use Rattle.ada_grammar.specs.Parts.{Rest};
 ghost use Rattle.ada_grammar.specs.Lexemes.{Lexeme, lexeme, lexemes};
 ghost use Rattle.ada_grammar.specs.Phrases as phrases;
 ghost use Rattle.ada_grammar.specs.Reading.{Awaits, point};
 ghost use Rattle.ada_grammar.specs.Standing.{Forth, Grows, Holds};
 ghost use Rattle.ada_tree.specs.Forms.{file_form};
+ghost use Rattle.ada_tree.specs.Tree.{IsOrdered};
 ghost use Rattle.ada_tree.specs.declared.forms.FileForm.TheVariants as forms;
 ghost use Rattle.spark_parser.specs.Files.{AddsUnits, FindsFile, FindsItem};
 
@@ -182,6 +183,7 @@ pub fn file(
     cursor: Cursor,
 ) -> Result<Cursor, Fault>
     requires at { cursor.at ≤ length (lexemes tokens.now) }
+    requires ordered { IsOrdered units.old }
     ensures { FindsFile (lexemes tokens.now) cursor units.old units.new result }
 {
     let mut so_far = Progress {

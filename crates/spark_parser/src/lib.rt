@@ -5,11 +5,7 @@ mod calls;
 mod declarations;
 mod files;
 mod laws;
-#[cfg(test)]
-mod tests;
 mod units;
-#[cfg(test)]
-mod worked;
 
 pub use calls::{ParseFault, parse};
 pub use laws::one_answer;

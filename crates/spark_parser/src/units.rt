@@ -1,6 +1,6 @@
 //! The readers of packages, their bodies and main subprograms.
 ghost use Rattle.std.specs.Prelude.{◌≡◌, ◌≤◌, ◌+◌, length, IfOk};
-ghost use Rattle.ada_grammar.specs.Grammar as parts;
+ghost use Rattle.ada_grammar.specs.Parts as parts;
 ghost use Rattle.ada_grammar.specs.Lexemes.{lexeme, lexemes};
 ghost use Rattle.ada_grammar.specs.Phrases as phrases;
 ghost use Rattle.ada_grammar.specs.Standing.{Forth, Holds, Widens};
@@ -60,49 +60,24 @@ fn spec_unit(
     let (name, behind_name) = expect(tokens, cursor, Class::Word)?;
     let behind_aspects = optional_aspects(alloc, units, tokens, behind_name, &mut own)?;
     let (_, behind_keyword) = expect(tokens, behind_aspects, Class::Reserved(Reserved::Is))?;
-    let behind_items = declarations(alloc, units, tokens, behind_keyword, Region::Spec, &mut own)?;
-    if let Some((private, behind_private)) = accept(
-        tokens,
-        behind_items,
-        Class::Reserved(Reserved::Private),
-    )? {
+    let next = declarations(alloc, units, tokens, behind_keyword, Region::Spec, &mut own)?;
+    if let Some((private, inside)) = accept(tokens, next, Class::Reserved(Reserved::Private))? {
         let mut hidden = Children::new(alloc);
-        let behind_items_2 = declarations(
-            alloc,
-            units,
-            tokens,
-            behind_private,
-            Region::Spec,
-            &mut hidden,
-        )?;
+        let behind_items = declarations(alloc, units, tokens, inside, Region::Spec, &mut hidden)?;
         add_declaration(units, DeclKind::PrivatePart, private.span, hidden, &mut own)?;
-        let (_, behind_end) = expect(tokens, behind_items_2, Class::Reserved(Reserved::End))?;
-        return end_of_unit(
-            alloc,
-            units,
-            tokens,
-            behind_end,
-            UnitKind::Spec {
-                has_private_part: true,
-                has_end_name: false,
-            },
-            name,
-            own,
-        );
-    }
-    let (_, behind_end_2) = expect(tokens, behind_items, Class::Reserved(Reserved::End))?;
-    end_of_unit(
-        alloc,
-        units,
-        tokens,
-        behind_end_2,
-        UnitKind::Spec {
-            has_private_part: false,
+        let (_, behind_end) = expect(tokens, behind_items, Class::Reserved(Reserved::End))?;
+        let kind = UnitKind::Spec {
+            has_private_part: true,
             has_end_name: false,
-        },
-        name,
-        own,
-    )
+        };
+        return end_of_unit(alloc, units, tokens, behind_end, kind, name, own);
+    }
+    let (_, behind_end_2) = expect(tokens, next, Class::Reserved(Reserved::End))?;
+    let kind = UnitKind::Spec {
+        has_private_part: false,
+        has_end_name: false,
+    };
+    end_of_unit(alloc, units, tokens, behind_end_2, kind, name, own)
 }
 
 /// The body of a package, behind its words.
@@ -130,32 +105,18 @@ fn body_unit(
     )? {
         let behind_statements = statements(alloc, units, tokens, behind_begin, &mut own)?;
         let (_, behind_end) = expect(tokens, behind_statements, Class::Reserved(Reserved::End))?;
-        return end_of_unit(
-            alloc,
-            units,
-            tokens,
-            behind_end,
-            UnitKind::PackageBody {
-                has_statements: true,
-                has_end_name: false,
-            },
-            name,
-            own,
-        );
+        let kind = UnitKind::PackageBody {
+            has_statements: true,
+            has_end_name: false,
+        };
+        return end_of_unit(alloc, units, tokens, behind_end, kind, name, own);
     }
     let (_, behind_end_2) = expect(tokens, behind_items, Class::Reserved(Reserved::End))?;
-    end_of_unit(
-        alloc,
-        units,
-        tokens,
-        behind_end_2,
-        UnitKind::PackageBody {
-            has_statements: false,
-            has_end_name: false,
-        },
-        name,
-        own,
-    )
+    let kind = UnitKind::PackageBody {
+        has_statements: false,
+        has_end_name: false,
+    };
+    end_of_unit(alloc, units, tokens, behind_end_2, kind, name, own)
 }
 
 /// A package or its body, behind the word package.

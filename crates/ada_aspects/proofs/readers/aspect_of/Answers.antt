@@ -2,8 +2,8 @@ use Rattle.ada_tree.specs.Identifiers.{aspect_name}
 use Rattle.std.proofs.Common.{refl, arith, sym, ap, ◌∙◌}
 use Rattle.ada_tree.specs.declared.identifiers.AspectName.TheVariants as aspect_names
 use Rattle.ada_grammar.specs.Lexemes.{lexeme, lexemes}
-use Rattle.ada_grammar.specs.Grammar as parts
-use Rattle.ada_grammar.specs.Grammar.{mark, word, Gives, Call, Rest}
+use Rattle.ada_grammar.specs.Parts as parts
+use Rattle.ada_grammar.specs.Parts.{mark, word, Gives, Call, Rest}
 use Rattle.ada_grammar.proofs.Steps.{start}
 use Rattle.ada_grammar.proofs.Joining.{finds_last, goes_on, of_form}
 use Rattle.ada_aspects.proofs.readers.aspect_of.Goals as goal

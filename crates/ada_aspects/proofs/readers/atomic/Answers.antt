@@ -2,8 +2,8 @@ use Rattle.std.proofs.Common.{refl, arith}
 use Rattle.ada_tree.specs.declared.token.Mark.TheVariants as marks
 use Rattle.ada_grammar.specs.declared.tokens.Class.TheVariants as classes
 use Rattle.ada_grammar.specs.Lexemes.{lexeme, lexemes}
-use Rattle.ada_grammar.specs.Grammar as parts
-use Rattle.ada_grammar.specs.Grammar.{mark, word, Gives, Call, Rest}
+use Rattle.ada_grammar.specs.Parts as parts
+use Rattle.ada_grammar.specs.Parts.{mark, word, Gives, Call, Rest}
 use Rattle.ada_grammar.proofs.Steps.{start, seen, unseen}
 use Rattle.ada_grammar.proofs.Answering.{passes_here, misses_here}
 use Rattle.ada_grammar.proofs.Joining.{absent, present, fault_found, found}
@@ -16,13 +16,13 @@ pub returns-in_err-behind_value-clause-reads : goal.returns-in_err-behind_value-
 returns-in_err-behind_value-clause-reads c = λ ds hd. fault_found (parts.Atomic (lexeme c.args.tokens.now.source c.args.name) ds) (lexemes c.args.tokens.now) c.args.cursor _ _ _ _ (misses_here (lexemes c.args.tokens.now) c.args.cursor c.in-Some.behind_arrow classes.True _ (omega (arith, (present (mark marks.Arrow) (lexeme c.args.tokens.now.source) (lexemes c.args.tokens.now) c.args.cursor c.in_ok-behind_arrow.ensures c.in-Some.is).place, (present (mark marks.Arrow) (lexeme c.args.tokens.now.source) (lexemes c.args.tokens.now) c.args.cursor c.in_ok-behind_arrow.ensures c.in-Some.is).within)) (seen (start (parts.Atomic (lexeme c.args.tokens.now.source c.args.name) ds) _) (present (mark marks.Arrow) (lexeme c.args.tokens.now.source) (lexemes c.args.tokens.now) c.args.cursor c.in_ok-behind_arrow.ensures c.in-Some.is).takes refl) refl (λ t. refl) c.in_err-behind_value.ensures) c.from_residual-in_err-behind_value.ensures.1
 
 pub returns-in-Some-clause-reads : goal.returns-in-Some-clause-reads
-returns-in-Some-clause-reads c = λ ds hd. found (lexemes c.args.tokens.now) c.args.cursor c.in_ok-behind_value.behind_value (c.in_ok-add_named_aspect.ensures.builds _ _ (c.new.ensures _) hd) (omega (arith, (present (mark marks.Arrow) (lexeme c.args.tokens.now.source) (lexemes c.args.tokens.now) c.args.cursor c.in_ok-behind_arrow.ensures c.in-Some.is).place, c.in_ok-behind_value.ensures.place)) (omega (arith, c.in_ok-behind_value.ensures.place, c.in_ok-behind_value.ensures.within)) (seen (seen (start (parts.Atomic (lexeme c.args.tokens.now.source c.args.name) ds) _) (present (mark marks.Arrow) (lexeme c.args.tokens.now.source) (lexemes c.args.tokens.now) c.args.cursor c.in_ok-behind_arrow.ensures c.in-Some.is).takes refl) c.in_ok-behind_value.ensures.takes refl)
+returns-in-Some-clause-reads c = λ ds hd. found (lexemes c.args.tokens.now) c.args.cursor c.in_ok-behind_value.behind_value (c.in_ok-add_named_aspect.ensures.builds _ _ (c.new.ensures _ hd.ordered) hd) (omega (arith, (present (mark marks.Arrow) (lexeme c.args.tokens.now.source) (lexemes c.args.tokens.now) c.args.cursor c.in_ok-behind_arrow.ensures c.in-Some.is).place, c.in_ok-behind_value.ensures.place)) (omega (arith, c.in_ok-behind_value.ensures.place, c.in_ok-behind_value.ensures.within)) (seen (seen (start (parts.Atomic (lexeme c.args.tokens.now.source c.args.name) ds) _) (present (mark marks.Arrow) (lexeme c.args.tokens.now.source) (lexemes c.args.tokens.now) c.args.cursor c.in_ok-behind_arrow.ensures c.in-Some.is).takes refl) c.in_ok-behind_value.ensures.takes refl)
 
 pub returns-in-Some-clause-goes : goal.returns-in-Some-clause-goes
 returns-in-Some-clause-goes c = record { forward = omega (arith, (present (mark marks.Arrow) (lexeme c.args.tokens.now.source) (lexemes c.args.tokens.now) c.args.cursor c.in_ok-behind_arrow.ensures c.in-Some.is).place, c.in_ok-behind_value.ensures.place); ends = (omega (arith, c.in_ok-behind_value.ensures.place, c.in_ok-behind_value.ensures.within)) }
 
 pub returns-clause-reads : goal.returns-clause-reads
-returns-clause-reads c = λ ds hd. found (lexemes c.args.tokens.now) c.args.cursor c.args.cursor (c.in_ok-add_named_aspect-2.ensures.builds _ _ (c.new-2.ensures _) hd) (omega arith) c.requires.at (unseen (start (parts.Atomic (lexeme c.args.tokens.now.source c.args.name) ds) _) (absent (mark marks.Arrow) (lexeme c.args.tokens.now.source) (lexemes c.args.tokens.now) c.args.cursor c.in_ok-behind_arrow.ensures c.in_default.is))
+returns-clause-reads c = λ ds hd. found (lexemes c.args.tokens.now) c.args.cursor c.args.cursor (c.in_ok-add_named_aspect-2.ensures.builds _ _ (c.new-2.ensures _ hd.ordered) hd) (omega arith) c.requires.at (unseen (start (parts.Atomic (lexeme c.args.tokens.now.source c.args.name) ds) _) (absent (mark marks.Arrow) (lexeme c.args.tokens.now.source) (lexemes c.args.tokens.now) c.args.cursor c.in_ok-behind_arrow.ensures c.in_default.is))
 
 pub returns-clause-goes : goal.returns-clause-goes
 returns-clause-goes c = record { forward = omega arith; ends = c.requires.at }

@@ -2,9 +2,10 @@ use Rattle.std.proofs.Common.{refl, true, false, ℕ, zero, suc, ◌≡◌, ◌-
 use Rattle.ada_tree.specs.declared.token.Mark.TheVariants as marks
 use Rattle.ada_grammar.specs.declared.tokens.Class.TheVariants as classes
 use Rattle.ada_grammar.specs.Lexemes.{lexeme, lexemes}
-use Rattle.ada_grammar.specs.Grammar as parts
-use Rattle.ada_grammar.specs.Grammar.{mark, Rest, is_none, one_less}
-use Rattle.ada_grammar.specs.Reading.{Awaits, Point}
+use Rattle.ada_grammar.specs.Parts as parts
+use Rattle.ada_grammar.specs.Parts.{mark, Rest, is_none, one_less}
+use Rattle.ada_grammar.specs.Reading.{Awaits}
+use Rattle.ada_grammar.specs.Fronts.{Point}
 use Rattle.ada_grammar.proofs.Steps.{whole, opened, seen, unseen, decided, declined}
 use Rattle.ada_grammar.proofs.Answering.{passes_here, misses_here}
 use Rattle.ada_grammar.proofs.Joining.{absent, present, fault_skipped}

@@ -1,6 +1,6 @@
 use Rattle.std.proofs.Common.{◌≤◌, length, ◌-◌}
-use Rattle.ada_grammar.specs.Grammar as parts
-use Rattle.ada_grammar.specs.Grammar.{Rest}
+use Rattle.ada_grammar.specs.Parts as parts
+use Rattle.ada_grammar.specs.Parts.{Rest}
 use Rattle.ada_grammar.specs.Lexemes.{lexemes}
 use Rattle.ada_grammar.specs.Reading.{Awaits, point}
 use Rattle.ada_aspects.proofs.readers.balanced.Given as goal

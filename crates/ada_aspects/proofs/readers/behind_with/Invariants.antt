@@ -1,8 +1,8 @@
 use Rattle.std.proofs.Common.{◌≤◌, length, ◌-◌}
 use Rattle.ada_grammar.specs.Lexemes.{lexemes}
 use Rattle.ada_grammar.specs.Phrases as phrases
-use Rattle.ada_grammar.specs.Grammar as parts
-use Rattle.ada_grammar.specs.Grammar.{mark, word, Gives, Call, Rest}
+use Rattle.ada_grammar.specs.Parts as parts
+use Rattle.ada_grammar.specs.Parts.{mark, word, Gives, Call, Rest}
 use Rattle.ada_grammar.specs.Standing.{Holds, Grows}
 use Rattle.ada_grammar.specs.Reading.{Awaits, point}
 use Rattle.ada_aspects.proofs.readers.behind_with.Given as goal

@@ -3,8 +3,8 @@ use Rattle.ada_tree.specs.declared.token.Mark.TheVariants as marks
 use Rattle.ada_tree.specs.declared.words.Reserved.TheVariants as words
 use Rattle.ada_grammar.specs.declared.tokens.Class.TheVariants as classes
 use Rattle.ada_grammar.specs.Lexemes.{lexeme, lexemes}
-use Rattle.ada_grammar.specs.Grammar as parts
-use Rattle.ada_grammar.specs.Grammar.{mark, word, Gives, Call, Rest}
+use Rattle.ada_grammar.specs.Parts as parts
+use Rattle.ada_grammar.specs.Parts.{mark, word, Gives, Call, Rest}
 use Rattle.ada_grammar.proofs.Steps.{start, seen, unseen, done}
 use Rattle.ada_grammar.proofs.Answering.{passes_here, misses_here, refuses}
 use Rattle.ada_grammar.proofs.Joining.{absent, present, fault_found, found, finds_last, goes_on}
@@ -21,13 +21,13 @@ pub returns-in_err-behind_balanced-clause-reads : goal.returns-in_err-behind_bal
 returns-in_err-behind_balanced-clause-reads c = λ ds hd. fault_found (parts.InStates ds) (lexemes c.args.tokens.now) c.args.cursor _ _ _ _ (refuses (lexemes c.args.tokens.now) c.args.cursor c.in-Some-2.behind_keyword _ (seen (seen (start (parts.InStates ds) _) (present classes.Word (lexeme c.args.tokens.now.source) (lexemes c.args.tokens.now) c.args.cursor c.in_ok-name.ensures c.in-Some.is).takes refl) (present (word words.With) (lexeme c.args.tokens.now.source) (lexemes c.args.tokens.now) c.in-Some.behind_name c.in_ok-behind_keyword.ensures c.in-Some-2.is).takes refl) (λ b. refl) c.in_err-behind_balanced.ensures) c.from_residual-in_err-behind_balanced.ensures.1
 
 pub returns-in-Some-2-clause-reads : goal.returns-in-Some-2-clause-reads
-returns-in-Some-2-clause-reads c = λ ds hd. found (lexemes c.args.tokens.now) c.args.cursor c.in_ok-behind_balanced.behind_balanced (c.in_ok-declare.ensures.builds _ _ (c.new.ensures _) hd) (omega (arith, (present classes.Word (lexeme c.args.tokens.now.source) (lexemes c.args.tokens.now) c.args.cursor c.in_ok-name.ensures c.in-Some.is).place, (present (word words.With) (lexeme c.args.tokens.now.source) (lexemes c.args.tokens.now) c.in-Some.behind_name c.in_ok-behind_keyword.ensures c.in-Some-2.is).place, c.in_ok-behind_balanced.ensures.forward)) c.in_ok-behind_balanced.ensures.ends (done (seen (seen (start (parts.InStates ds) _) (present classes.Word (lexeme c.args.tokens.now.source) (lexemes c.args.tokens.now) c.args.cursor c.in_ok-name.ensures c.in-Some.is).takes refl) (present (word words.With) (lexeme c.args.tokens.now.source) (lexemes c.args.tokens.now) c.in-Some.behind_name c.in_ok-behind_keyword.ensures c.in-Some-2.is).takes refl) c.in_ok-behind_balanced.ensures.reads (λ b. refl))
+returns-in-Some-2-clause-reads c = λ ds hd. found (lexemes c.args.tokens.now) c.args.cursor c.in_ok-behind_balanced.behind_balanced (c.in_ok-declare.ensures.builds _ _ (c.new.ensures _ hd.ordered) hd) (omega (arith, (present classes.Word (lexeme c.args.tokens.now.source) (lexemes c.args.tokens.now) c.args.cursor c.in_ok-name.ensures c.in-Some.is).place, (present (word words.With) (lexeme c.args.tokens.now.source) (lexemes c.args.tokens.now) c.in-Some.behind_name c.in_ok-behind_keyword.ensures c.in-Some-2.is).place, c.in_ok-behind_balanced.ensures.forward)) c.in_ok-behind_balanced.ensures.ends (done (seen (seen (start (parts.InStates ds) _) (present classes.Word (lexeme c.args.tokens.now.source) (lexemes c.args.tokens.now) c.args.cursor c.in_ok-name.ensures c.in-Some.is).takes refl) (present (word words.With) (lexeme c.args.tokens.now.source) (lexemes c.args.tokens.now) c.in-Some.behind_name c.in_ok-behind_keyword.ensures c.in-Some-2.is).takes refl) c.in_ok-behind_balanced.ensures.reads (λ b. refl))
 
 pub returns-in-Some-2-clause-goes : goal.returns-in-Some-2-clause-goes
 returns-in-Some-2-clause-goes c = record { forward = omega (arith, (present classes.Word (lexeme c.args.tokens.now.source) (lexemes c.args.tokens.now) c.args.cursor c.in_ok-name.ensures c.in-Some.is).place, (present (word words.With) (lexeme c.args.tokens.now.source) (lexemes c.args.tokens.now) c.in-Some.behind_name c.in_ok-behind_keyword.ensures c.in-Some-2.is).place, c.in_ok-behind_balanced.ensures.forward); ends = c.in_ok-behind_balanced.ensures.ends }
 
 pub returns-in-Some-clause-reads : goal.returns-in-Some-clause-reads
-returns-in-Some-clause-reads c = λ ds hd. finds_last (lexemes c.args.tokens.now) c.args.cursor c.in-Some.behind_name _ _ _ (unseen (seen (start (parts.InStates ds) _) (present classes.Word (lexeme c.args.tokens.now.source) (lexemes c.args.tokens.now) c.args.cursor c.in_ok-name.ensures c.in-Some.is).takes refl) (absent (word words.With) (lexeme c.args.tokens.now.source) (lexemes c.args.tokens.now) c.in-Some.behind_name c.in_ok-behind_keyword.ensures c.in_default-2.is)) (omega (arith, (present classes.Word (lexeme c.args.tokens.now.source) (lexemes c.args.tokens.now) c.args.cursor c.in_ok-name.ensures c.in-Some.is).place)) refl (c.more_states.ensures.reads _ (c.in_ok-declare-2.ensures.builds _ _ (c.new-in-Some.ensures _) hd))
+returns-in-Some-clause-reads c = λ ds hd. finds_last (lexemes c.args.tokens.now) c.args.cursor c.in-Some.behind_name _ _ _ (unseen (seen (start (parts.InStates ds) _) (present classes.Word (lexeme c.args.tokens.now.source) (lexemes c.args.tokens.now) c.args.cursor c.in_ok-name.ensures c.in-Some.is).takes refl) (absent (word words.With) (lexeme c.args.tokens.now.source) (lexemes c.args.tokens.now) c.in-Some.behind_name c.in_ok-behind_keyword.ensures c.in_default-2.is)) (omega (arith, (present classes.Word (lexeme c.args.tokens.now.source) (lexemes c.args.tokens.now) c.args.cursor c.in_ok-name.ensures c.in-Some.is).place)) refl (c.more_states.ensures.reads _ (c.in_ok-declare-2.ensures.builds _ _ (c.new-in-Some.ensures _ hd.ordered) hd))
 
 pub returns-in-Some-clause-goes : goal.returns-in-Some-clause-goes
 returns-in-Some-clause-goes c = goes_on (lexemes c.args.tokens.now) c.args.cursor c.in-Some.behind_name _ (omega (arith, (present classes.Word (lexeme c.args.tokens.now.source) (lexemes c.args.tokens.now) c.args.cursor c.in_ok-name.ensures c.in-Some.is).place)) c.more_states.ensures.goes

@@ -3,8 +3,8 @@ use Rattle.ada_tree.specs.declared.token.Mark.TheVariants as marks
 use Rattle.ada_tree.specs.declared.words.Reserved.TheVariants as words
 use Rattle.ada_grammar.specs.declared.tokens.Class.TheVariants as classes
 use Rattle.ada_grammar.specs.Lexemes.{lexeme, lexemes}
-use Rattle.ada_grammar.specs.Grammar as parts
-use Rattle.ada_grammar.specs.Grammar.{mark, word, Gives, Call, Rest}
+use Rattle.ada_grammar.specs.Parts as parts
+use Rattle.ada_grammar.specs.Parts.{mark, word, Gives, Call, Rest}
 use Rattle.ada_grammar.proofs.Steps.{start, seen, unseen, done}
 use Rattle.ada_grammar.proofs.Answering.{passes_here, misses_here, refuses}
 use Rattle.ada_grammar.proofs.Joining.{absent, present, fault_found, found, finds_last, goes_on}
@@ -15,7 +15,7 @@ pub returns-in_err-keyword-clause-reads : goal.returns-in_err-keyword-clause-rea
 returns-in_err-keyword-clause-reads c = λ ds hd. fault_found (parts.InitializesDefinition ds) (lexemes c.args.tokens.now) c.args.cursor _ _ _ _ (passes_here (lexemes c.args.tokens.now) c.args.cursor c.args.cursor (word words.Null) _ (start (parts.InitializesDefinition ds) _) (λ t. refl) c.in_err-keyword.ensures) c.from_residual.ensures.1
 
 pub returns-in-Some-clause-reads : goal.returns-in-Some-clause-reads
-returns-in-Some-clause-reads c = λ ds hd. found (lexemes c.args.tokens.now) c.args.cursor c.in-Some.behind_keyword (c.in_ok-add_aspect.ensures.builds _ _ (c.new.ensures _) hd) (omega (arith, (present (word words.Null) (lexeme c.args.tokens.now.source) (lexemes c.args.tokens.now) c.args.cursor c.in_ok-keyword.ensures c.in-Some.is).place)) (omega (arith, (present (word words.Null) (lexeme c.args.tokens.now.source) (lexemes c.args.tokens.now) c.args.cursor c.in_ok-keyword.ensures c.in-Some.is).place, (present (word words.Null) (lexeme c.args.tokens.now.source) (lexemes c.args.tokens.now) c.args.cursor c.in_ok-keyword.ensures c.in-Some.is).within)) (seen (start (parts.InitializesDefinition ds) _) (present (word words.Null) (lexeme c.args.tokens.now.source) (lexemes c.args.tokens.now) c.args.cursor c.in_ok-keyword.ensures c.in-Some.is).takes refl)
+returns-in-Some-clause-reads c = λ ds hd. found (lexemes c.args.tokens.now) c.args.cursor c.in-Some.behind_keyword (c.in_ok-add_aspect.ensures.builds _ _ (c.new.ensures _ hd.ordered) hd) (omega (arith, (present (word words.Null) (lexeme c.args.tokens.now.source) (lexemes c.args.tokens.now) c.args.cursor c.in_ok-keyword.ensures c.in-Some.is).place)) (omega (arith, (present (word words.Null) (lexeme c.args.tokens.now.source) (lexemes c.args.tokens.now) c.args.cursor c.in_ok-keyword.ensures c.in-Some.is).place, (present (word words.Null) (lexeme c.args.tokens.now.source) (lexemes c.args.tokens.now) c.args.cursor c.in_ok-keyword.ensures c.in-Some.is).within)) (seen (start (parts.InitializesDefinition ds) _) (present (word words.Null) (lexeme c.args.tokens.now.source) (lexemes c.args.tokens.now) c.args.cursor c.in_ok-keyword.ensures c.in-Some.is).takes refl)
 
 pub returns-in-Some-clause-goes : goal.returns-in-Some-clause-goes
 returns-in-Some-clause-goes c = record { forward = omega (arith, (present (word words.Null) (lexeme c.args.tokens.now.source) (lexemes c.args.tokens.now) c.args.cursor c.in_ok-keyword.ensures c.in-Some.is).place); ends = (omega (arith, (present (word words.Null) (lexeme c.args.tokens.now.source) (lexemes c.args.tokens.now) c.args.cursor c.in_ok-keyword.ensures c.in-Some.is).place, (present (word words.Null) (lexeme c.args.tokens.now.source) (lexemes c.args.tokens.now) c.args.cursor c.in_ok-keyword.ensures c.in-Some.is).within)) }
@@ -33,13 +33,13 @@ pub returns-in_err-name-clause-reads : goal.returns-in_err-name-clause-reads
 returns-in_err-name-clause-reads c = λ ds hd. fault_found (parts.InitializesDefinition ds) (lexemes c.args.tokens.now) c.args.cursor _ _ _ _ (misses_here (lexemes c.args.tokens.now) c.args.cursor c.args.cursor classes.Word _ c.requires.at (unseen (unseen (start (parts.InitializesDefinition ds) _) (absent (word words.Null) (lexeme c.args.tokens.now.source) (lexemes c.args.tokens.now) c.args.cursor c.in_ok-keyword.ensures c.in_default.is)) (absent (mark marks.Open) (lexeme c.args.tokens.now.source) (lexemes c.args.tokens.now) c.args.cursor c.in_ok-behind_opening.ensures c.in_default-2.is)) refl (λ t. refl) c.in_err-name.ensures) c.from_residual-in_err-name.ensures.1
 
 pub returns-in_err-behind_whole_name-clause-reads : goal.returns-in_err-behind_whole_name-clause-reads
-returns-in_err-behind_whole_name-clause-reads c = λ ds hd. fault_found (parts.InitializesDefinition ds) (lexemes c.args.tokens.now) c.args.cursor _ _ _ _ (refuses (lexemes c.args.tokens.now) c.args.cursor c.in_ok-name.behind_name _ (seen (unseen (unseen (start (parts.InitializesDefinition ds) _) (absent (word words.Null) (lexeme c.args.tokens.now.source) (lexemes c.args.tokens.now) c.args.cursor c.in_ok-keyword.ensures c.in_default.is)) (absent (mark marks.Open) (lexeme c.args.tokens.now.source) (lexemes c.args.tokens.now) c.args.cursor c.in_ok-behind_opening.ensures c.in_default-2.is)) c.in_ok-name.ensures.takes refl) (λ b. refl) (c.in_err-behind_whole_name.ensures.reads _ (c.new-item.ensures _))) c.from_residual-in_err-behind_whole_name.ensures.1
+returns-in_err-behind_whole_name-clause-reads c = λ ds hd. fault_found (parts.InitializesDefinition ds) (lexemes c.args.tokens.now) c.args.cursor _ _ _ _ (refuses (lexemes c.args.tokens.now) c.args.cursor c.in_ok-name.behind_name _ (seen (unseen (unseen (start (parts.InitializesDefinition ds) _) (absent (word words.Null) (lexeme c.args.tokens.now.source) (lexemes c.args.tokens.now) c.args.cursor c.in_ok-keyword.ensures c.in_default.is)) (absent (mark marks.Open) (lexeme c.args.tokens.now.source) (lexemes c.args.tokens.now) c.args.cursor c.in_ok-behind_opening.ensures c.in_default-2.is)) c.in_ok-name.ensures.takes refl) (λ b. refl) (c.in_err-behind_whole_name.ensures.reads _ (c.new-item.ensures _ hd.ordered))) c.from_residual-in_err-behind_whole_name.ensures.1
 
 pub returns-in_err-add_aspect-2-clause-grows : goal.returns-in_err-add_aspect-2-clause-grows
 returns-in_err-add_aspect-2-clause-grows c = (grows_on c.in_ok-behind_whole_name.ensures.grows c.in_err-add_aspect-2.ensures.grows)
 
 pub returns-clause-reads : goal.returns-clause-reads
-returns-clause-reads c = λ ds hd. let f1 = c.in_ok-behind_whole_name.ensures.reads _ (c.new-item.ensures _) in found (lexemes c.args.tokens.now) c.args.cursor c.in_ok-behind_whole_name.behind_whole_name (c.in_ok-add_aspect-2.ensures.builds _ _ f1.holds (holds_on c.in_ok-behind_whole_name.ensures.grows hd)) (omega (arith, c.in_ok-name.ensures.place, c.in_ok-behind_whole_name.ensures.goes.forward)) c.in_ok-behind_whole_name.ensures.goes.ends (done (seen (unseen (unseen (start (parts.InitializesDefinition ds) _) (absent (word words.Null) (lexeme c.args.tokens.now.source) (lexemes c.args.tokens.now) c.args.cursor c.in_ok-keyword.ensures c.in_default.is)) (absent (mark marks.Open) (lexeme c.args.tokens.now.source) (lexemes c.args.tokens.now) c.args.cursor c.in_ok-behind_opening.ensures c.in_default-2.is)) c.in_ok-name.ensures.takes refl) f1.reads (λ b. refl))
+returns-clause-reads c = λ ds hd. let f1 = c.in_ok-behind_whole_name.ensures.reads _ (c.new-item.ensures _ hd.ordered) in found (lexemes c.args.tokens.now) c.args.cursor c.in_ok-behind_whole_name.behind_whole_name (c.in_ok-add_aspect-2.ensures.builds _ _ f1.holds (holds_on f1.holds.ordered c.in_ok-behind_whole_name.ensures.grows hd)) (omega (arith, c.in_ok-name.ensures.place, c.in_ok-behind_whole_name.ensures.goes.forward)) c.in_ok-behind_whole_name.ensures.goes.ends (done (seen (unseen (unseen (start (parts.InitializesDefinition ds) _) (absent (word words.Null) (lexeme c.args.tokens.now.source) (lexemes c.args.tokens.now) c.args.cursor c.in_ok-keyword.ensures c.in_default.is)) (absent (mark marks.Open) (lexeme c.args.tokens.now.source) (lexemes c.args.tokens.now) c.args.cursor c.in_ok-behind_opening.ensures c.in_default-2.is)) c.in_ok-name.ensures.takes refl) f1.reads (λ b. refl))
 
 pub returns-clause-goes : goal.returns-clause-goes
 returns-clause-goes c = record { forward = omega (arith, c.in_ok-name.ensures.place, c.in_ok-behind_whole_name.ensures.goes.forward); ends = c.in_ok-behind_whole_name.ensures.goes.ends }

@@ -1,13 +1,13 @@
 use Rattle.ada_grammar.specs.Lexemes.{lexemes}
-use Rattle.ada_grammar.specs.Grammar as parts
-use Rattle.ada_grammar.proofs.Standing.{exprs_grow, holds_on}
+use Rattle.ada_grammar.specs.Parts as parts
+use Rattle.ada_grammar.proofs.Standing.{exprs_grow, holds_extended}
 use Rattle.ada_exprs.proofs.parts.simple_expression.Goals as goal
 
 pub returns-clause-grows : goal.returns-clause-grows
 returns-clause-grows c = exprs_grow c.read_simple-answer.ensures.extends
 
 pub returns-clause-reads : goal.returns-clause-reads
-returns-clause-reads c = λ ds h. c.hold.ensures.holds parts.Simple (lexemes c.args.tokens.now) c.args.cursor _ ds (holds_on (exprs_grow c.read_simple-answer.ensures.extends) h) c.read_simple-answer.ensures.reads
+returns-clause-reads c = λ ds h. c.hold.ensures.holds parts.Simple (lexemes c.args.tokens.now) c.args.cursor _ ds (holds_extended c.read_simple-answer.ensures.extends h) c.read_simple-answer.ensures.reads
 
 pub returns-clause-goes : goal.returns-clause-goes
 returns-clause-goes c = c.hold.ensures.goes parts.Simple (lexemes c.args.tokens.now) c.args.cursor _ c.read_simple-answer.ensures.reads

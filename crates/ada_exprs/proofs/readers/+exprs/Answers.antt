@@ -1,4 +1,4 @@
-use Rattle.ada_grammar.specs.Grammar as parts
+use Rattle.ada_grammar.specs.Parts as parts
 use Rattle.ada_grammar.specs.Phrases as phrases
 use Rattle.ada_grammar.specs.declared.nodes.Form.TheVariants as forms
 use Rattle.ada_grammar.specs.declared.tokens.Class.TheVariants as classes
@@ -12,7 +12,7 @@ use Rattle.ada_grammar.proofs.Answering.{answers, fails, fails_last, misses, mis
 use Rattle.ada_grammar.proofs.NodeTrees.{extends_on, extends_same, items_below, items_more, within_on}
 use Rattle.ada_grammar.proofs.Steps.{decided, declined, done, go_as, opened, seen, start, tail, unseen, whole}
 use Rattle.ada_grammar.specs.Built.{phrase, tree_at, trees, trees_at}
-use Rattle.ada_grammar.specs.Grammar.{Call, Gives, Rest, mark, word}
+use Rattle.ada_grammar.specs.Parts.{Call, Gives, Rest, mark, word}
 use Rattle.ada_grammar.specs.Lexemes.{lexeme, lexemes}
 use Rattle.ada_grammar.specs.Phrases.{Tree}
 use Rattle.ada_tree.specs.declared.expressions.AddingOperator.{AddingOperator}

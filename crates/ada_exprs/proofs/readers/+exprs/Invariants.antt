@@ -1,6 +1,6 @@
-use Rattle.ada_grammar.specs.Grammar as parts
+use Rattle.ada_grammar.specs.Parts as parts
 use Rattle.ada_grammar.specs.Built.{AreBelow, Extends, phrase, trees, trees_at}
-use Rattle.ada_grammar.specs.Grammar.{Call, Gives, Rest, mark, word}
+use Rattle.ada_grammar.specs.Parts.{Call, Gives, Rest, mark, word}
 use Rattle.ada_grammar.specs.Lexemes.{lexeme, lexemes}
 use Rattle.ada_grammar.specs.Reading.{Awaits, point}
 use Rattle.std.proofs.Common.{[], length, true, ◌*◌, ◌+◌, ◌-◌, ◌<◌, ◌∷◌, ◌≤◌}

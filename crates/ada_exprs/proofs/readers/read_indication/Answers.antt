@@ -1,6 +1,6 @@
 use Rattle.std.proofs.Common.{refl}
 use Rattle.ada_grammar.specs.Lexemes.{lexemes}
-use Rattle.ada_grammar.specs.Grammar as parts
+use Rattle.ada_grammar.specs.Parts as parts
 use Rattle.ada_grammar.proofs.NodeTrees.{extends_on}
 use Rattle.ada_grammar.proofs.Steps.{start, done}
 use Rattle.ada_grammar.proofs.Answering.{answers, fails}

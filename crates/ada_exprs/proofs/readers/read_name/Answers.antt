@@ -1,7 +1,7 @@
 use Rattle.std.proofs.Common.{refl, arith}
 use Rattle.ada_grammar.specs.declared.tokens.Class.TheVariants as classes
 use Rattle.ada_grammar.specs.Lexemes.{lexemes}
-use Rattle.ada_grammar.specs.Grammar as parts
+use Rattle.ada_grammar.specs.Parts as parts
 use Rattle.ada_grammar.proofs.Steps.{start, seen}
 use Rattle.ada_grammar.proofs.Answering.{answers, misses}
 use Rattle.ada_exprs.proofs.readers.read_name.Goals as goal

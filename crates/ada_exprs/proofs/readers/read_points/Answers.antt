@@ -2,8 +2,8 @@ use Rattle.std.proofs.Common.{refl, arith}
 use Rattle.ada_tree.specs.declared.token.Mark.TheVariants as marks
 use Rattle.ada_grammar.specs.declared.tokens.Class.TheVariants as classes
 use Rattle.ada_grammar.specs.Lexemes.{lexeme, lexemes}
-use Rattle.ada_grammar.specs.Grammar as parts
-use Rattle.ada_grammar.specs.Grammar.{mark, Rest}
+use Rattle.ada_grammar.specs.Parts as parts
+use Rattle.ada_grammar.specs.Parts.{mark, Rest}
 use Rattle.ada_grammar.proofs.NodeTrees.{extends_on, extends_same}
 use Rattle.ada_grammar.proofs.Steps.{seen, unseen, opened, whole, go_as}
 use Rattle.ada_grammar.proofs.Answering.{misses, passes}

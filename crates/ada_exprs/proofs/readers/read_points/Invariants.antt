@@ -1,7 +1,7 @@
 use Rattle.std.proofs.Common.{length, ◌-◌, ◌<◌, ◌≤◌}
-use Rattle.ada_grammar.specs.Grammar as parts
+use Rattle.ada_grammar.specs.Parts as parts
 use Rattle.ada_grammar.specs.Built.{Extends, phrase, trees}
-use Rattle.ada_grammar.specs.Grammar.{Rest}
+use Rattle.ada_grammar.specs.Parts.{Rest}
 use Rattle.ada_grammar.specs.Lexemes.{lexemes}
 use Rattle.ada_grammar.specs.Reading.{Awaits, point}
 use Rattle.ada_exprs.proofs.readers.read_points.Given as goal

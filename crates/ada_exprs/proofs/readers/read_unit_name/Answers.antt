@@ -3,8 +3,8 @@ use Rattle.ada_tree.specs.declared.expressions.ExprKind.TheVariants as kinds
 use Rattle.ada_grammar.specs.declared.nodes.Form.TheVariants as forms
 use Rattle.ada_grammar.specs.declared.tokens.Class.TheVariants as classes
 use Rattle.ada_grammar.specs.Lexemes.{lexeme, lexemes}
-use Rattle.ada_grammar.specs.Grammar as parts
-use Rattle.ada_grammar.specs.Grammar.{Rest}
+use Rattle.ada_grammar.specs.Parts as parts
+use Rattle.ada_grammar.specs.Parts.{Rest}
 use Rattle.ada_grammar.proofs.NodeTrees.{extends_on}
 use Rattle.ada_grammar.proofs.Steps.{start, seen, go_as}
 use Rattle.ada_grammar.proofs.Answering.{answers, misses}

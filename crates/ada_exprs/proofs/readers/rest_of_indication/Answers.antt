@@ -5,8 +5,8 @@ use Rattle.ada_tree.specs.declared.expressions.ExprKind.TheVariants as kinds
 use Rattle.ada_grammar.specs.declared.nodes.Form.TheVariants as forms
 use Rattle.ada_grammar.specs.Lexemes.{lexeme, lexemes}
 use Rattle.ada_grammar.specs.Built.{trees, phrase}
-use Rattle.ada_grammar.specs.Grammar as parts
-use Rattle.ada_grammar.specs.Grammar.{mark, word, Gives}
+use Rattle.ada_grammar.specs.Parts as parts
+use Rattle.ada_grammar.specs.Parts.{mark, word, Gives}
 use Rattle.ada_grammar.proofs.NodeTrees.{extends_on, within_on}
 use Rattle.ada_grammar.proofs.Steps.{start, seen, unseen, done, go_as}
 use Rattle.ada_grammar.proofs.Answering.{fails, misses, passes}

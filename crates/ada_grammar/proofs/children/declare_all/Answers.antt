@@ -5,7 +5,7 @@ use Rattle.ada_tree.specs.declared.token.Token.{Token}
 use Rattle.ada_grammar.specs.declared.children.Children as held
 use Rattle.ada_grammar.specs.Lexemes.{Lexeme, lexeme}
 use Rattle.ada_grammar.specs.Phrases.{Children, declared, declared_all}
-use Rattle.ada_grammar.specs.Standing.{Holds}
+use Rattle.ada_grammar.specs.Standing.{Holds, shared_children}
 use Rattle.ada_grammar.proofs.Standing.{grows_on, holds_on}
 use Rattle.ada_grammar.proofs.children.declare_all.Goals as goal
 
@@ -22,17 +22,18 @@ all_named : (kind : DeclKind) (of : Token → Lexeme) (items names : List Token)
 all_named kind of items names i os before whole e past h =
     sym (at_drop_all (λ (z : List Token). declared_all kind (map of z) os before) names i (subst (λ (z : List Token). length z ≤ i) e past)) ∙ h
 
-pub returns-in_err-declare-clause-grows : goal.returns-in_err-declare-clause-grows
-returns-in_err-declare-clause-grows c = grows_on c.loop-name.invariant.grows c.declare.ensures.grows
+pub returns-in_err-declare_shared-clause-grows : goal.returns-in_err-declare_shared-clause-grows
+returns-in_err-declare_shared-clause-grows c = grows_on c.loop-name.invariant.grows c.declare_shared.ensures.grows
 
 pub loop-name-preserved : goal.loop-name-preserved
 loop-name-preserved c = record {
-  grows = grows_on c.loop-name.invariant.grows c.declare.ensures.grows;
+  grows = grows_on c.loop-name.invariant.grows c.declare_shared.ensures.grows;
   rest = λ os ds own into.
       let before = c.loop-name.invariant.rest os ds own into in
-      let under = subst (λ (z : held.Children). Holds c.loop-name.units z os) (sym c.in_ok-copy.ensures) (holds_on c.loop-name.invariant.grows own) in (
+      let same = ap shared_children c.in_ok-share.ensures ∙ c.in_ok-own.ensures in
+      let under = subst (λ (z : held.Children). Holds c.loop-name.units z os) (sym same) (holds_on before.1.ordered c.loop-name.invariant.grows own) in (
         _,
-        c.in_ok-declare.ensures.builds os before.0 under before.1,
+        c.in_ok-declare_shared.ensures.builds os before.0 under before.1,
         next_name c.args.kind (lexeme c.args.tokens.now.source) c.as_slice-name-items.result.now c.args.names.now c.loop-name.name-index _ os before.0 _ c.as_slice-name-items.ensures c.loop-name-test.true before.2,
       );
 }

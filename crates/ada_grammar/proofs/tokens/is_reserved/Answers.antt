@@ -2,7 +2,7 @@ use Rattle.std.proofs.Common.{rules, ◌≡◌, Bool, true, false, refl, sym, �
 use denote.Enum.Bare.{same_true, same_false, sameb}
 use Rattle.ada_tree.specs.declared.words.Reserved.{Reserved}
 use Rattle.ada_tree.specs.contracts.words.Reserved.{the_type}
-use Rattle.ada_grammar.specs.Sorts.{same_word}
+use Rattle.ada_grammar.specs.Numbers.{same_word}
 use Rattle.ada_grammar.proofs.EverySort.{one_word, word_self}
 use Rattle.ada_grammar.proofs.tokens.is_reserved.Goals as goal
 

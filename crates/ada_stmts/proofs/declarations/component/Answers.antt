@@ -1,8 +1,8 @@
 use Rattle.std.proofs.Common.{refl, map, arith}
 use Rattle.ada_tree.specs.declared.token.Mark.TheVariants as marks
 use Rattle.ada_grammar.specs.Lexemes.{lexeme, lexemes}
-use Rattle.ada_grammar.specs.Grammar as parts
-use Rattle.ada_grammar.specs.Grammar.{mark, word, Gives, Call, Rest}
+use Rattle.ada_grammar.specs.Parts as parts
+use Rattle.ada_grammar.specs.Parts.{mark, word, Gives, Call, Rest}
 use Rattle.ada_grammar.proofs.Steps.{start, seen, unseen, done}
 use Rattle.ada_grammar.proofs.Answering.{passes_here, misses_here, refuses}
 use Rattle.ada_grammar.proofs.Joining.{absent, present, fault_found, found}
@@ -10,19 +10,19 @@ use Rattle.ada_grammar.proofs.Standing.{grows_on, holds_on}
 use Rattle.ada_stmts.proofs.declarations.component.Goals as goal
 
 pub returns-in_err-behind_subtype-clause-reads : goal.returns-in_err-behind_subtype-clause-reads
-returns-in_err-behind_subtype-clause-reads c = λ ds hd. fault_found (parts.Component (map (lexeme c.args.tokens.now.source) c.args.names.now) ds) (lexemes c.args.tokens.now) c.args.cursor _ _ _ _ (refuses (lexemes c.args.tokens.now) c.args.cursor c.args.cursor _ (start (parts.Component (map (lexeme c.args.tokens.now.source) c.args.names.now) ds) _) (λ b. refl) (c.in_err-behind_subtype.ensures.reads _ (c.new-own.ensures _))) c.from_residual.ensures.1
+returns-in_err-behind_subtype-clause-reads c = λ ds hd. fault_found (parts.Component (map (lexeme c.args.tokens.now.source) c.args.names.now) ds) (lexemes c.args.tokens.now) c.args.cursor _ _ _ _ (refuses (lexemes c.args.tokens.now) c.args.cursor c.args.cursor _ (start (parts.Component (map (lexeme c.args.tokens.now.source) c.args.names.now) ds) _) (λ b. refl) (c.in_err-behind_subtype.ensures.reads _ (c.new-own.ensures _ hd.ordered))) c.from_residual.ensures.1
 
 pub returns-in_err-behind_becomes-clause-reads : goal.returns-in_err-behind_becomes-clause-reads
-returns-in_err-behind_becomes-clause-reads c = λ ds hd. let f1 = c.in_ok-behind_subtype.ensures.reads _ (c.new-own.ensures _) in fault_found (parts.Component (map (lexeme c.args.tokens.now.source) c.args.names.now) ds) (lexemes c.args.tokens.now) c.args.cursor _ _ _ _ (passes_here (lexemes c.args.tokens.now) c.args.cursor c.in_ok-behind_subtype.behind_subtype (mark marks.Becomes) _ (done (start (parts.Component (map (lexeme c.args.tokens.now.source) c.args.names.now) ds) _) f1.reads (λ b. refl)) (λ t. refl) c.in_err-behind_becomes.ensures) c.from_residual-in_err-behind_becomes.ensures.1
+returns-in_err-behind_becomes-clause-reads c = λ ds hd. let f1 = c.in_ok-behind_subtype.ensures.reads _ (c.new-own.ensures _ hd.ordered) in fault_found (parts.Component (map (lexeme c.args.tokens.now.source) c.args.names.now) ds) (lexemes c.args.tokens.now) c.args.cursor _ _ _ _ (passes_here (lexemes c.args.tokens.now) c.args.cursor c.in_ok-behind_subtype.behind_subtype (mark marks.Becomes) _ (done (start (parts.Component (map (lexeme c.args.tokens.now.source) c.args.names.now) ds) _) f1.reads (λ b. refl)) (λ t. refl) c.in_err-behind_becomes.ensures) c.from_residual-in_err-behind_becomes.ensures.1
 
 pub returns-in_err-behind_value-clause-reads : goal.returns-in_err-behind_value-clause-reads
-returns-in_err-behind_value-clause-reads c = λ ds hd. let f1 = c.in_ok-behind_subtype.ensures.reads _ (c.new-own.ensures _) in fault_found (parts.Component (map (lexeme c.args.tokens.now.source) c.args.names.now) ds) (lexemes c.args.tokens.now) c.args.cursor _ _ _ _ (refuses (lexemes c.args.tokens.now) c.args.cursor c.in-Some.behind_becomes _ (seen (done (start (parts.Component (map (lexeme c.args.tokens.now.source) c.args.names.now) ds) _) f1.reads (λ b. refl)) (present (mark marks.Becomes) (lexeme c.args.tokens.now.source) (lexemes c.args.tokens.now) c.in_ok-behind_subtype.behind_subtype c.in_ok-behind_becomes.ensures c.in-Some.is).takes refl) (λ b. refl) (c.in_err-behind_value.ensures.reads _ f1.holds)) c.from_residual-in_err-behind_value.ensures.1
+returns-in_err-behind_value-clause-reads c = λ ds hd. let f1 = c.in_ok-behind_subtype.ensures.reads _ (c.new-own.ensures _ hd.ordered) in fault_found (parts.Component (map (lexeme c.args.tokens.now.source) c.args.names.now) ds) (lexemes c.args.tokens.now) c.args.cursor _ _ _ _ (refuses (lexemes c.args.tokens.now) c.args.cursor c.in-Some.behind_becomes _ (seen (done (start (parts.Component (map (lexeme c.args.tokens.now.source) c.args.names.now) ds) _) f1.reads (λ b. refl)) (present (mark marks.Becomes) (lexeme c.args.tokens.now.source) (lexemes c.args.tokens.now) c.in_ok-behind_subtype.behind_subtype c.in_ok-behind_becomes.ensures c.in-Some.is).takes refl) (λ b. refl) (c.in_err-behind_value.ensures.reads _ f1.holds)) c.from_residual-in_err-behind_value.ensures.1
 
 pub returns-in_err-behind_value-clause-grows : goal.returns-in_err-behind_value-clause-grows
 returns-in_err-behind_value-clause-grows c = (grows_on c.in_ok-behind_subtype.ensures.grows c.in_err-behind_value.ensures.grows)
 
 pub returns-in_err-behind_end-clause-reads : goal.returns-in_err-behind_end-clause-reads
-returns-in_err-behind_end-clause-reads c = λ ds hd. let f1 = c.in_ok-behind_subtype.ensures.reads _ (c.new-own.ensures _) in let f2 = c.in_ok-behind_value.ensures.reads _ f1.holds in fault_found (parts.Component (map (lexeme c.args.tokens.now.source) c.args.names.now) ds) (lexemes c.args.tokens.now) c.args.cursor _ _ _ _ (misses_here (lexemes c.args.tokens.now) c.args.cursor c.in_ok-behind_value.behind_value (mark marks.Semicolon) _ c.in_ok-behind_value.ensures.goes.ends (done (seen (done (start (parts.Component (map (lexeme c.args.tokens.now.source) c.args.names.now) ds) _) f1.reads (λ b. refl)) (present (mark marks.Becomes) (lexeme c.args.tokens.now.source) (lexemes c.args.tokens.now) c.in_ok-behind_subtype.behind_subtype c.in_ok-behind_becomes.ensures c.in-Some.is).takes refl) f2.reads (λ b. refl)) refl (λ t. refl) c.in_err-behind_end.ensures) c.from_residual-in_err-behind_end.ensures.1
+returns-in_err-behind_end-clause-reads c = λ ds hd. let f1 = c.in_ok-behind_subtype.ensures.reads _ (c.new-own.ensures _ hd.ordered) in let f2 = c.in_ok-behind_value.ensures.reads _ f1.holds in fault_found (parts.Component (map (lexeme c.args.tokens.now.source) c.args.names.now) ds) (lexemes c.args.tokens.now) c.args.cursor _ _ _ _ (misses_here (lexemes c.args.tokens.now) c.args.cursor c.in_ok-behind_value.behind_value (mark marks.Semicolon) _ c.in_ok-behind_value.ensures.goes.ends (done (seen (done (start (parts.Component (map (lexeme c.args.tokens.now.source) c.args.names.now) ds) _) f1.reads (λ b. refl)) (present (mark marks.Becomes) (lexeme c.args.tokens.now.source) (lexemes c.args.tokens.now) c.in_ok-behind_subtype.behind_subtype c.in_ok-behind_becomes.ensures c.in-Some.is).takes refl) f2.reads (λ b. refl)) refl (λ t. refl) c.in_err-behind_end.ensures) c.from_residual-in_err-behind_end.ensures.1
 
 pub returns-in_err-behind_end-clause-grows : goal.returns-in_err-behind_end-clause-grows
 returns-in_err-behind_end-clause-grows c = (grows_on c.in_ok-behind_subtype.ensures.grows c.in_ok-behind_value.ensures.grows)
@@ -31,7 +31,7 @@ pub returns-in_err-declare_all-clause-grows : goal.returns-in_err-declare_all-cl
 returns-in_err-declare_all-clause-grows c = (grows_on (grows_on c.in_ok-behind_subtype.ensures.grows c.in_ok-behind_value.ensures.grows) c.in_err-declare_all.ensures.grows)
 
 pub returns-in-Some-clause-reads : goal.returns-in-Some-clause-reads
-returns-in-Some-clause-reads c = λ ds hd. let f1 = c.in_ok-behind_subtype.ensures.reads _ (c.new-own.ensures _) in let f2 = c.in_ok-behind_value.ensures.reads _ f1.holds in found (lexemes c.args.tokens.now) c.args.cursor c.in_ok-behind_end.behind_end (c.in_ok-declare_all.ensures.builds _ _ f2.holds (holds_on c.in_ok-behind_value.ensures.grows (holds_on c.in_ok-behind_subtype.ensures.grows hd))) (omega (arith, c.in_ok-behind_subtype.ensures.goes.forward, (present (mark marks.Becomes) (lexeme c.args.tokens.now.source) (lexemes c.args.tokens.now) c.in_ok-behind_subtype.behind_subtype c.in_ok-behind_becomes.ensures c.in-Some.is).place, c.in_ok-behind_value.ensures.goes.forward, c.in_ok-behind_end.ensures.place)) (omega (arith, c.in_ok-behind_end.ensures.place, c.in_ok-behind_end.ensures.within)) (seen (done (seen (done (start (parts.Component (map (lexeme c.args.tokens.now.source) c.args.names.now) ds) _) f1.reads (λ b. refl)) (present (mark marks.Becomes) (lexeme c.args.tokens.now.source) (lexemes c.args.tokens.now) c.in_ok-behind_subtype.behind_subtype c.in_ok-behind_becomes.ensures c.in-Some.is).takes refl) f2.reads (λ b. refl)) c.in_ok-behind_end.ensures.takes refl)
+returns-in-Some-clause-reads c = λ ds hd. let f1 = c.in_ok-behind_subtype.ensures.reads _ (c.new-own.ensures _ hd.ordered) in let f2 = c.in_ok-behind_value.ensures.reads _ f1.holds in found (lexemes c.args.tokens.now) c.args.cursor c.in_ok-behind_end.behind_end (c.in_ok-declare_all.ensures.builds _ _ f2.holds (holds_on f2.holds.ordered c.in_ok-behind_value.ensures.grows (holds_on f1.holds.ordered c.in_ok-behind_subtype.ensures.grows hd))) (omega (arith, c.in_ok-behind_subtype.ensures.goes.forward, (present (mark marks.Becomes) (lexeme c.args.tokens.now.source) (lexemes c.args.tokens.now) c.in_ok-behind_subtype.behind_subtype c.in_ok-behind_becomes.ensures c.in-Some.is).place, c.in_ok-behind_value.ensures.goes.forward, c.in_ok-behind_end.ensures.place)) (omega (arith, c.in_ok-behind_end.ensures.place, c.in_ok-behind_end.ensures.within)) (seen (done (seen (done (start (parts.Component (map (lexeme c.args.tokens.now.source) c.args.names.now) ds) _) f1.reads (λ b. refl)) (present (mark marks.Becomes) (lexeme c.args.tokens.now.source) (lexemes c.args.tokens.now) c.in_ok-behind_subtype.behind_subtype c.in_ok-behind_becomes.ensures c.in-Some.is).takes refl) f2.reads (λ b. refl)) c.in_ok-behind_end.ensures.takes refl)
 
 pub returns-in-Some-clause-goes : goal.returns-in-Some-clause-goes
 returns-in-Some-clause-goes c = record { forward = omega (arith, c.in_ok-behind_subtype.ensures.goes.forward, (present (mark marks.Becomes) (lexeme c.args.tokens.now.source) (lexemes c.args.tokens.now) c.in_ok-behind_subtype.behind_subtype c.in_ok-behind_becomes.ensures c.in-Some.is).place, c.in_ok-behind_value.ensures.goes.forward, c.in_ok-behind_end.ensures.place); ends = (omega (arith, c.in_ok-behind_end.ensures.place, c.in_ok-behind_end.ensures.within)) }
@@ -40,13 +40,13 @@ pub returns-in-Some-clause-grows : goal.returns-in-Some-clause-grows
 returns-in-Some-clause-grows c = (grows_on (grows_on c.in_ok-behind_subtype.ensures.grows c.in_ok-behind_value.ensures.grows) c.in_ok-declare_all.ensures.grows)
 
 pub returns-in_err-behind_end_2-clause-reads : goal.returns-in_err-behind_end_2-clause-reads
-returns-in_err-behind_end_2-clause-reads c = λ ds hd. let f1 = c.in_ok-behind_subtype.ensures.reads _ (c.new-own.ensures _) in fault_found (parts.Component (map (lexeme c.args.tokens.now.source) c.args.names.now) ds) (lexemes c.args.tokens.now) c.args.cursor _ _ _ _ (misses_here (lexemes c.args.tokens.now) c.args.cursor c.in_ok-behind_subtype.behind_subtype (mark marks.Semicolon) _ c.in_ok-behind_subtype.ensures.goes.ends (unseen (done (start (parts.Component (map (lexeme c.args.tokens.now.source) c.args.names.now) ds) _) f1.reads (λ b. refl)) (absent (mark marks.Becomes) (lexeme c.args.tokens.now.source) (lexemes c.args.tokens.now) c.in_ok-behind_subtype.behind_subtype c.in_ok-behind_becomes.ensures c.in_default.is)) refl (λ t. refl) c.in_err-behind_end_2.ensures) c.from_residual-in_err-behind_end_2.ensures.1
+returns-in_err-behind_end_2-clause-reads c = λ ds hd. let f1 = c.in_ok-behind_subtype.ensures.reads _ (c.new-own.ensures _ hd.ordered) in fault_found (parts.Component (map (lexeme c.args.tokens.now.source) c.args.names.now) ds) (lexemes c.args.tokens.now) c.args.cursor _ _ _ _ (misses_here (lexemes c.args.tokens.now) c.args.cursor c.in_ok-behind_subtype.behind_subtype (mark marks.Semicolon) _ c.in_ok-behind_subtype.ensures.goes.ends (unseen (done (start (parts.Component (map (lexeme c.args.tokens.now.source) c.args.names.now) ds) _) f1.reads (λ b. refl)) (absent (mark marks.Becomes) (lexeme c.args.tokens.now.source) (lexemes c.args.tokens.now) c.in_ok-behind_subtype.behind_subtype c.in_ok-behind_becomes.ensures c.in_default.is)) refl (λ t. refl) c.in_err-behind_end_2.ensures) c.from_residual-in_err-behind_end_2.ensures.1
 
 pub returns-in_err-declare_all-2-clause-grows : goal.returns-in_err-declare_all-2-clause-grows
 returns-in_err-declare_all-2-clause-grows c = (grows_on c.in_ok-behind_subtype.ensures.grows c.in_err-declare_all-2.ensures.grows)
 
 pub returns-clause-reads : goal.returns-clause-reads
-returns-clause-reads c = λ ds hd. let f1 = c.in_ok-behind_subtype.ensures.reads _ (c.new-own.ensures _) in found (lexemes c.args.tokens.now) c.args.cursor c.in_ok-behind_end_2.behind_end_2 (c.in_ok-declare_all-2.ensures.builds _ _ f1.holds (holds_on c.in_ok-behind_subtype.ensures.grows hd)) (omega (arith, c.in_ok-behind_subtype.ensures.goes.forward, c.in_ok-behind_end_2.ensures.place)) (omega (arith, c.in_ok-behind_end_2.ensures.place, c.in_ok-behind_end_2.ensures.within)) (seen (unseen (done (start (parts.Component (map (lexeme c.args.tokens.now.source) c.args.names.now) ds) _) f1.reads (λ b. refl)) (absent (mark marks.Becomes) (lexeme c.args.tokens.now.source) (lexemes c.args.tokens.now) c.in_ok-behind_subtype.behind_subtype c.in_ok-behind_becomes.ensures c.in_default.is)) c.in_ok-behind_end_2.ensures.takes refl)
+returns-clause-reads c = λ ds hd. let f1 = c.in_ok-behind_subtype.ensures.reads _ (c.new-own.ensures _ hd.ordered) in found (lexemes c.args.tokens.now) c.args.cursor c.in_ok-behind_end_2.behind_end_2 (c.in_ok-declare_all-2.ensures.builds _ _ f1.holds (holds_on f1.holds.ordered c.in_ok-behind_subtype.ensures.grows hd)) (omega (arith, c.in_ok-behind_subtype.ensures.goes.forward, c.in_ok-behind_end_2.ensures.place)) (omega (arith, c.in_ok-behind_end_2.ensures.place, c.in_ok-behind_end_2.ensures.within)) (seen (unseen (done (start (parts.Component (map (lexeme c.args.tokens.now.source) c.args.names.now) ds) _) f1.reads (λ b. refl)) (absent (mark marks.Becomes) (lexeme c.args.tokens.now.source) (lexemes c.args.tokens.now) c.in_ok-behind_subtype.behind_subtype c.in_ok-behind_becomes.ensures c.in_default.is)) c.in_ok-behind_end_2.ensures.takes refl)
 
 pub returns-clause-goes : goal.returns-clause-goes
 returns-clause-goes c = record { forward = omega (arith, c.in_ok-behind_subtype.ensures.goes.forward, c.in_ok-behind_end_2.ensures.place); ends = (omega (arith, c.in_ok-behind_end_2.ensures.place, c.in_ok-behind_end_2.ensures.within)) }

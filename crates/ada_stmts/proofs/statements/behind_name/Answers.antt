@@ -1,8 +1,8 @@
 use Rattle.std.proofs.Common.{refl, arith}
 use Rattle.ada_tree.specs.declared.token.Mark.TheVariants as marks
 use Rattle.ada_grammar.specs.Lexemes.{lexeme, lexemes}
-use Rattle.ada_grammar.specs.Grammar as parts
-use Rattle.ada_grammar.specs.Grammar.{mark, word, Gives, Call, Rest}
+use Rattle.ada_grammar.specs.Parts as parts
+use Rattle.ada_grammar.specs.Parts.{mark, word, Gives, Call, Rest}
 use Rattle.ada_grammar.proofs.Steps.{start, seen, unseen, done}
 use Rattle.ada_grammar.proofs.Answering.{passes_here, misses_here, refuses}
 use Rattle.ada_grammar.proofs.Joining.{absent, present, fault_found, found}
@@ -22,7 +22,7 @@ pub returns-in_err-add_statement-clause-grows : goal.returns-in_err-add_statemen
 returns-in_err-add_statement-clause-grows c = (grows_on c.in_ok-behind_value.ensures.grows c.in_err-add_statement.ensures.grows)
 
 pub returns-in-Some-clause-reads : goal.returns-in-Some-clause-reads
-returns-in-Some-clause-reads c = λ os ds ho hd. let f1 = c.in_ok-behind_value.ensures.reads _ ho in found (lexemes c.args.tokens.now) c.args.cursor c.in_ok-behind_end.behind_end (c.in_ok-add_statement.ensures.builds _ _ f1.holds (holds_on c.in_ok-behind_value.ensures.grows hd)) (omega (arith, (present (mark marks.Becomes) (lexeme c.args.tokens.now.source) (lexemes c.args.tokens.now) c.args.cursor c.in_ok-behind_becomes.ensures c.in-Some.is).place, c.in_ok-behind_value.ensures.goes.forward, c.in_ok-behind_end.ensures.place)) (omega (arith, c.in_ok-behind_end.ensures.place, c.in_ok-behind_end.ensures.within)) (seen (done (seen (start (parts.BehindName c.args.span os ds) _) (present (mark marks.Becomes) (lexeme c.args.tokens.now.source) (lexemes c.args.tokens.now) c.args.cursor c.in_ok-behind_becomes.ensures c.in-Some.is).takes refl) f1.reads (λ b. refl)) c.in_ok-behind_end.ensures.takes refl)
+returns-in-Some-clause-reads c = λ os ds ho hd. let f1 = c.in_ok-behind_value.ensures.reads _ ho in found (lexemes c.args.tokens.now) c.args.cursor c.in_ok-behind_end.behind_end (c.in_ok-add_statement.ensures.builds _ _ f1.holds (holds_on f1.holds.ordered c.in_ok-behind_value.ensures.grows hd)) (omega (arith, (present (mark marks.Becomes) (lexeme c.args.tokens.now.source) (lexemes c.args.tokens.now) c.args.cursor c.in_ok-behind_becomes.ensures c.in-Some.is).place, c.in_ok-behind_value.ensures.goes.forward, c.in_ok-behind_end.ensures.place)) (omega (arith, c.in_ok-behind_end.ensures.place, c.in_ok-behind_end.ensures.within)) (seen (done (seen (start (parts.BehindName c.args.span os ds) _) (present (mark marks.Becomes) (lexeme c.args.tokens.now.source) (lexemes c.args.tokens.now) c.args.cursor c.in_ok-behind_becomes.ensures c.in-Some.is).takes refl) f1.reads (λ b. refl)) c.in_ok-behind_end.ensures.takes refl)
 
 pub returns-in-Some-clause-goes : goal.returns-in-Some-clause-goes
 returns-in-Some-clause-goes c = record { forward = omega (arith, (present (mark marks.Becomes) (lexeme c.args.tokens.now.source) (lexemes c.args.tokens.now) c.args.cursor c.in_ok-behind_becomes.ensures c.in-Some.is).place, c.in_ok-behind_value.ensures.goes.forward, c.in_ok-behind_end.ensures.place); ends = (omega (arith, c.in_ok-behind_end.ensures.place, c.in_ok-behind_end.ensures.within)) }

@@ -1,8 +1,8 @@
 use Rattle.std.proofs.Common.{refl, arith}
 use Rattle.ada_tree.specs.declared.token.Mark.TheVariants as marks
 use Rattle.ada_grammar.specs.Lexemes.{lexeme, lexemes}
-use Rattle.ada_grammar.specs.Grammar as parts
-use Rattle.ada_grammar.specs.Grammar.{mark, word, Gives, Call, Rest}
+use Rattle.ada_grammar.specs.Parts as parts
+use Rattle.ada_grammar.specs.Parts.{mark, word, Gives, Call, Rest}
 use Rattle.ada_grammar.proofs.Steps.{start, seen, unseen, done}
 use Rattle.ada_grammar.proofs.Answering.{passes_here, misses_here, refuses}
 use Rattle.ada_grammar.proofs.Joining.{absent, present, fault_found, found}
@@ -13,22 +13,22 @@ pub returns-in_err-behind_end-clause-reads : goal.returns-in_err-behind_end-clau
 returns-in_err-behind_end-clause-reads c = λ ds hd. fault_found (parts.Return (lexeme c.args.tokens.now.source c.args.first) ds) (lexemes c.args.tokens.now) c.args.cursor _ _ _ _ (passes_here (lexemes c.args.tokens.now) c.args.cursor c.args.cursor (mark marks.Semicolon) _ (start (parts.Return (lexeme c.args.tokens.now.source c.args.first) ds) _) (λ t. refl) c.in_err-behind_end.ensures) c.from_residual.ensures.1
 
 pub returns-in-Some-clause-reads : goal.returns-in-Some-clause-reads
-returns-in-Some-clause-reads c = λ ds hd. found (lexemes c.args.tokens.now) c.args.cursor c.in-Some.behind_end (c.in_ok-add_statement.ensures.builds _ _ (c.new-own.ensures _) hd) (omega (arith, (present (mark marks.Semicolon) (lexeme c.args.tokens.now.source) (lexemes c.args.tokens.now) c.args.cursor c.in_ok-behind_end.ensures c.in-Some.is).place)) (omega (arith, (present (mark marks.Semicolon) (lexeme c.args.tokens.now.source) (lexemes c.args.tokens.now) c.args.cursor c.in_ok-behind_end.ensures c.in-Some.is).place, (present (mark marks.Semicolon) (lexeme c.args.tokens.now.source) (lexemes c.args.tokens.now) c.args.cursor c.in_ok-behind_end.ensures c.in-Some.is).within)) (seen (start (parts.Return (lexeme c.args.tokens.now.source c.args.first) ds) _) (present (mark marks.Semicolon) (lexeme c.args.tokens.now.source) (lexemes c.args.tokens.now) c.args.cursor c.in_ok-behind_end.ensures c.in-Some.is).takes refl)
+returns-in-Some-clause-reads c = λ ds hd. found (lexemes c.args.tokens.now) c.args.cursor c.in-Some.behind_end (c.in_ok-add_statement.ensures.builds _ _ (c.new-own.ensures _ hd.ordered) hd) (omega (arith, (present (mark marks.Semicolon) (lexeme c.args.tokens.now.source) (lexemes c.args.tokens.now) c.args.cursor c.in_ok-behind_end.ensures c.in-Some.is).place)) (omega (arith, (present (mark marks.Semicolon) (lexeme c.args.tokens.now.source) (lexemes c.args.tokens.now) c.args.cursor c.in_ok-behind_end.ensures c.in-Some.is).place, (present (mark marks.Semicolon) (lexeme c.args.tokens.now.source) (lexemes c.args.tokens.now) c.args.cursor c.in_ok-behind_end.ensures c.in-Some.is).within)) (seen (start (parts.Return (lexeme c.args.tokens.now.source c.args.first) ds) _) (present (mark marks.Semicolon) (lexeme c.args.tokens.now.source) (lexemes c.args.tokens.now) c.args.cursor c.in_ok-behind_end.ensures c.in-Some.is).takes refl)
 
 pub returns-in-Some-clause-goes : goal.returns-in-Some-clause-goes
 returns-in-Some-clause-goes c = record { forward = omega (arith, (present (mark marks.Semicolon) (lexeme c.args.tokens.now.source) (lexemes c.args.tokens.now) c.args.cursor c.in_ok-behind_end.ensures c.in-Some.is).place); ends = (omega (arith, (present (mark marks.Semicolon) (lexeme c.args.tokens.now.source) (lexemes c.args.tokens.now) c.args.cursor c.in_ok-behind_end.ensures c.in-Some.is).place, (present (mark marks.Semicolon) (lexeme c.args.tokens.now.source) (lexemes c.args.tokens.now) c.args.cursor c.in_ok-behind_end.ensures c.in-Some.is).within)) }
 
 pub returns-in_err-behind_value-clause-reads : goal.returns-in_err-behind_value-clause-reads
-returns-in_err-behind_value-clause-reads c = λ ds hd. fault_found (parts.Return (lexeme c.args.tokens.now.source c.args.first) ds) (lexemes c.args.tokens.now) c.args.cursor _ _ _ _ (refuses (lexemes c.args.tokens.now) c.args.cursor c.args.cursor _ (unseen (start (parts.Return (lexeme c.args.tokens.now.source c.args.first) ds) _) (absent (mark marks.Semicolon) (lexeme c.args.tokens.now.source) (lexemes c.args.tokens.now) c.args.cursor c.in_ok-behind_end.ensures c.in_default.is)) (λ b. refl) (c.in_err-behind_value.ensures.reads _ (c.new-own.ensures _))) c.from_residual-in_err-behind_value.ensures.1
+returns-in_err-behind_value-clause-reads c = λ ds hd. fault_found (parts.Return (lexeme c.args.tokens.now.source c.args.first) ds) (lexemes c.args.tokens.now) c.args.cursor _ _ _ _ (refuses (lexemes c.args.tokens.now) c.args.cursor c.args.cursor _ (unseen (start (parts.Return (lexeme c.args.tokens.now.source c.args.first) ds) _) (absent (mark marks.Semicolon) (lexeme c.args.tokens.now.source) (lexemes c.args.tokens.now) c.args.cursor c.in_ok-behind_end.ensures c.in_default.is)) (λ b. refl) (c.in_err-behind_value.ensures.reads _ (c.new-own.ensures _ hd.ordered))) c.from_residual-in_err-behind_value.ensures.1
 
 pub returns-in_err-behind_end_2-clause-reads : goal.returns-in_err-behind_end_2-clause-reads
-returns-in_err-behind_end_2-clause-reads c = λ ds hd. let f1 = c.in_ok-behind_value.ensures.reads _ (c.new-own.ensures _) in fault_found (parts.Return (lexeme c.args.tokens.now.source c.args.first) ds) (lexemes c.args.tokens.now) c.args.cursor _ _ _ _ (misses_here (lexemes c.args.tokens.now) c.args.cursor c.in_ok-behind_value.behind_value (mark marks.Semicolon) _ c.in_ok-behind_value.ensures.goes.ends (done (unseen (start (parts.Return (lexeme c.args.tokens.now.source c.args.first) ds) _) (absent (mark marks.Semicolon) (lexeme c.args.tokens.now.source) (lexemes c.args.tokens.now) c.args.cursor c.in_ok-behind_end.ensures c.in_default.is)) f1.reads (λ b. refl)) refl (λ t. refl) c.in_err-behind_end_2.ensures) c.from_residual-in_err-behind_end_2.ensures.1
+returns-in_err-behind_end_2-clause-reads c = λ ds hd. let f1 = c.in_ok-behind_value.ensures.reads _ (c.new-own.ensures _ hd.ordered) in fault_found (parts.Return (lexeme c.args.tokens.now.source c.args.first) ds) (lexemes c.args.tokens.now) c.args.cursor _ _ _ _ (misses_here (lexemes c.args.tokens.now) c.args.cursor c.in_ok-behind_value.behind_value (mark marks.Semicolon) _ c.in_ok-behind_value.ensures.goes.ends (done (unseen (start (parts.Return (lexeme c.args.tokens.now.source c.args.first) ds) _) (absent (mark marks.Semicolon) (lexeme c.args.tokens.now.source) (lexemes c.args.tokens.now) c.args.cursor c.in_ok-behind_end.ensures c.in_default.is)) f1.reads (λ b. refl)) refl (λ t. refl) c.in_err-behind_end_2.ensures) c.from_residual-in_err-behind_end_2.ensures.1
 
 pub returns-in_err-add_statement-2-clause-grows : goal.returns-in_err-add_statement-2-clause-grows
 returns-in_err-add_statement-2-clause-grows c = (grows_on c.in_ok-behind_value.ensures.grows c.in_err-add_statement-2.ensures.grows)
 
 pub returns-clause-reads : goal.returns-clause-reads
-returns-clause-reads c = λ ds hd. let f1 = c.in_ok-behind_value.ensures.reads _ (c.new-own.ensures _) in found (lexemes c.args.tokens.now) c.args.cursor c.in_ok-behind_end_2.behind_end_2 (c.in_ok-add_statement-2.ensures.builds _ _ f1.holds (holds_on c.in_ok-behind_value.ensures.grows hd)) (omega (arith, c.in_ok-behind_value.ensures.goes.forward, c.in_ok-behind_end_2.ensures.place)) (omega (arith, c.in_ok-behind_end_2.ensures.place, c.in_ok-behind_end_2.ensures.within)) (seen (done (unseen (start (parts.Return (lexeme c.args.tokens.now.source c.args.first) ds) _) (absent (mark marks.Semicolon) (lexeme c.args.tokens.now.source) (lexemes c.args.tokens.now) c.args.cursor c.in_ok-behind_end.ensures c.in_default.is)) f1.reads (λ b. refl)) c.in_ok-behind_end_2.ensures.takes refl)
+returns-clause-reads c = λ ds hd. let f1 = c.in_ok-behind_value.ensures.reads _ (c.new-own.ensures _ hd.ordered) in found (lexemes c.args.tokens.now) c.args.cursor c.in_ok-behind_end_2.behind_end_2 (c.in_ok-add_statement-2.ensures.builds _ _ f1.holds (holds_on f1.holds.ordered c.in_ok-behind_value.ensures.grows hd)) (omega (arith, c.in_ok-behind_value.ensures.goes.forward, c.in_ok-behind_end_2.ensures.place)) (omega (arith, c.in_ok-behind_end_2.ensures.place, c.in_ok-behind_end_2.ensures.within)) (seen (done (unseen (start (parts.Return (lexeme c.args.tokens.now.source c.args.first) ds) _) (absent (mark marks.Semicolon) (lexeme c.args.tokens.now.source) (lexemes c.args.tokens.now) c.args.cursor c.in_ok-behind_end.ensures c.in_default.is)) f1.reads (λ b. refl)) c.in_ok-behind_end_2.ensures.takes refl)
 
 pub returns-clause-goes : goal.returns-clause-goes
 returns-clause-goes c = record { forward = omega (arith, c.in_ok-behind_value.ensures.goes.forward, c.in_ok-behind_end_2.ensures.place); ends = (omega (arith, c.in_ok-behind_end_2.ensures.place, c.in_ok-behind_end_2.ensures.within)) }

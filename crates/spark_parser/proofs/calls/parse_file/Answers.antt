@@ -1,5 +1,5 @@
 use Rattle.std.proofs.Common.{refl, arith}
-use Rattle.ada_grammar.specs.Grammar.{File}
+use Rattle.ada_grammar.specs.Parts.{File}
 use Rattle.spark_parser.proofs.ToldFiles.{told_beyond, told_fault, whole_file}
 use Rattle.spark_parser.proofs.calls.parse_file.Goals as goal
 

@@ -2,8 +2,8 @@ use Rattle.std.proofs.Common.{refl, true, map, arith, ap}
 use Rattle.ada_tree.specs.declared.words.Reserved.TheVariants as words
 use Rattle.ada_tree.specs.declared.declarations.DeclKind.TheVariants as decls
 use Rattle.ada_grammar.specs.Lexemes.{lexeme, lexemes}
-use Rattle.ada_grammar.specs.Grammar as parts
-use Rattle.ada_grammar.specs.Grammar.{mark, word, Gives, Call, Rest}
+use Rattle.ada_grammar.specs.Parts as parts
+use Rattle.ada_grammar.specs.Parts.{mark, word, Gives, Call, Rest}
 use Rattle.ada_grammar.proofs.Steps.{start, seen, unseen}
 use Rattle.ada_grammar.proofs.Answering.{passes_here}
 use Rattle.ada_grammar.proofs.Joining.{rest_as, absent, present, fault_found, finds_last, goes_on}

@@ -1,8 +1,8 @@
 use Rattle.std.proofs.Common.{refl, arith}
 use Rattle.ada_tree.specs.declared.words.Reserved.TheVariants as words
 use Rattle.ada_grammar.specs.Lexemes.{lexeme, lexemes}
-use Rattle.ada_grammar.specs.Grammar as parts
-use Rattle.ada_grammar.specs.Grammar.{mark, word, Gives, Call, Rest}
+use Rattle.ada_grammar.specs.Parts as parts
+use Rattle.ada_grammar.specs.Parts.{mark, word, Gives, Call, Rest}
 use Rattle.ada_grammar.proofs.Steps.{start, seen, done}
 use Rattle.ada_grammar.proofs.Answering.{misses_here, refuses}
 use Rattle.ada_grammar.proofs.Joining.{fault_found, finds_last, goes_on}
@@ -25,7 +25,7 @@ pub returns-in_err-behind_body-clause-grows : goal.returns-in_err-behind_body-cl
 returns-in_err-behind_body-clause-grows c = (grows_on c.in_ok-behind_value.ensures.grows c.in_err-behind_body.ensures.grows)
 
 pub returns-clause-reads : goal.returns-clause-reads
-returns-clause-reads c = λ os ds ho hd. let f1 = c.in_ok-behind_value.ensures.reads _ ho in let f2 = c.in_ok-behind_body.ensures.reads _ f1.holds in finds_last (lexemes c.args.tokens.now) c.args.cursor c.in_ok-behind_body.behind_body _ _ _ (done (seen (done (seen (start (parts.Barrier c.args.has_formals (lexeme c.args.tokens.now.source c.args.name) os ds) _) c.in_ok-behind_keyword.ensures.takes refl) f1.reads (λ b. refl)) c.in_ok-behind_is.ensures.takes refl) f2.reads (λ b. refl)) (omega (arith, c.in_ok-behind_keyword.ensures.place, c.in_ok-behind_value.ensures.goes.forward, c.in_ok-behind_is.ensures.place, c.in_ok-behind_body.ensures.goes.forward)) refl (c.end_of_declaration.ensures.reads _ _ f2.holds (holds_on c.in_ok-behind_body.ensures.grows (holds_on c.in_ok-behind_value.ensures.grows hd)))
+returns-clause-reads c = λ os ds ho hd. let f1 = c.in_ok-behind_value.ensures.reads _ ho in let f2 = c.in_ok-behind_body.ensures.reads _ f1.holds in finds_last (lexemes c.args.tokens.now) c.args.cursor c.in_ok-behind_body.behind_body _ _ _ (done (seen (done (seen (start (parts.Barrier c.args.has_formals (lexeme c.args.tokens.now.source c.args.name) os ds) _) c.in_ok-behind_keyword.ensures.takes refl) f1.reads (λ b. refl)) c.in_ok-behind_is.ensures.takes refl) f2.reads (λ b. refl)) (omega (arith, c.in_ok-behind_keyword.ensures.place, c.in_ok-behind_value.ensures.goes.forward, c.in_ok-behind_is.ensures.place, c.in_ok-behind_body.ensures.goes.forward)) refl (c.end_of_declaration.ensures.reads _ _ f2.holds (holds_on f2.holds.ordered c.in_ok-behind_body.ensures.grows (holds_on f1.holds.ordered c.in_ok-behind_value.ensures.grows hd)))
 
 pub returns-clause-goes : goal.returns-clause-goes
 returns-clause-goes c = goes_on (lexemes c.args.tokens.now) c.args.cursor c.in_ok-behind_body.behind_body _ (omega (arith, c.in_ok-behind_keyword.ensures.place, c.in_ok-behind_value.ensures.goes.forward, c.in_ok-behind_is.ensures.place, c.in_ok-behind_body.ensures.goes.forward)) c.end_of_declaration.ensures.goes

@@ -1,6 +1,6 @@
 use Rattle.ada_grammar.specs.Lexemes.{lexeme, lexemes}
-use Rattle.ada_grammar.specs.Grammar as parts
-use Rattle.ada_grammar.specs.Grammar.{mark, word, Gives, Call, Rest}
+use Rattle.ada_grammar.specs.Parts as parts
+use Rattle.ada_grammar.specs.Parts.{mark, word, Gives, Call, Rest}
 use Rattle.ada_grammar.proofs.Joining.{of_form}
 use Rattle.spark_parser.proofs.declarations.behind_head.Goals as goal
 

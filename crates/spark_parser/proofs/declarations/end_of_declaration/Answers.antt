@@ -3,8 +3,8 @@ use Rattle.ada_tree.specs.declared.token.Mark.TheVariants as marks
 use Rattle.ada_grammar.specs.declared.tokens.Class.TheVariants as classes
 use Rattle.ada_grammar.specs.Lexemes.{lexeme, lexemes}
 use Rattle.ada_grammar.specs.Phrases as phrases
-use Rattle.ada_grammar.specs.Grammar as parts
-use Rattle.ada_grammar.specs.Grammar.{mark, word, Gives, Call, Rest}
+use Rattle.ada_grammar.specs.Parts as parts
+use Rattle.ada_grammar.specs.Parts.{mark, word, Gives, Call, Rest}
 use Rattle.ada_grammar.proofs.Steps.{start, seen, unseen}
 use Rattle.ada_grammar.proofs.Answering.{passes_here, misses_here}
 use Rattle.ada_grammar.proofs.Joining.{holds_as, absent, present, fault_found, found}
@@ -21,7 +21,7 @@ pub returns-in_err-declare-clause-grows : goal.returns-in_err-declare-clause-gro
 returns-in_err-declare-clause-grows c = (grows_on c.in_ok-add_end_name.ensures.grows c.in_err-declare.ensures.grows)
 
 pub returns-in-Some-clause-reads : goal.returns-in-Some-clause-reads
-returns-in-Some-clause-reads c = λ os ds ho hd. found (lexemes c.args.tokens.now) c.args.cursor c.in_ok-behind_end.behind_end (holds_as (λ k. phrases.declared k (lexeme c.args.tokens.now.source c.args.name) (phrases.with_expr os (phrases.end_name (lexeme c.args.tokens.now.source c.in-Some.last))) ds) c.declared_end-kind.ensures (c.in_ok-declare.ensures.builds _ _ (c.in_ok-add_end_name.ensures.builds _ ho) (holds_on c.in_ok-add_end_name.ensures.grows hd))) (omega (arith, (present classes.Word (lexeme c.args.tokens.now.source) (lexemes c.args.tokens.now) c.args.cursor c.in_ok-last.ensures c.in-Some.is).place, c.in_ok-behind_end.ensures.place)) (omega (arith, c.in_ok-behind_end.ensures.place, c.in_ok-behind_end.ensures.within)) (seen (seen (start (parts.EndOfDeclaration c.args.kind (lexeme c.args.tokens.now.source c.args.name) os ds) _) (present classes.Word (lexeme c.args.tokens.now.source) (lexemes c.args.tokens.now) c.args.cursor c.in_ok-last.ensures c.in-Some.is).takes refl) c.in_ok-behind_end.ensures.takes refl)
+returns-in-Some-clause-reads c = λ os ds ho hd. let b1 = c.in_ok-add_end_name.ensures.builds _ ho in found (lexemes c.args.tokens.now) c.args.cursor c.in_ok-behind_end.behind_end (holds_as (λ k. phrases.declared k (lexeme c.args.tokens.now.source c.args.name) (phrases.with_expr os (phrases.end_name (lexeme c.args.tokens.now.source c.in-Some.last))) ds) c.declared_end-kind.ensures (c.in_ok-declare.ensures.builds _ _ b1 (holds_on b1.ordered c.in_ok-add_end_name.ensures.grows hd))) (omega (arith, (present classes.Word (lexeme c.args.tokens.now.source) (lexemes c.args.tokens.now) c.args.cursor c.in_ok-last.ensures c.in-Some.is).place, c.in_ok-behind_end.ensures.place)) (omega (arith, c.in_ok-behind_end.ensures.place, c.in_ok-behind_end.ensures.within)) (seen (seen (start (parts.EndOfDeclaration c.args.kind (lexeme c.args.tokens.now.source c.args.name) os ds) _) (present classes.Word (lexeme c.args.tokens.now.source) (lexemes c.args.tokens.now) c.args.cursor c.in_ok-last.ensures c.in-Some.is).takes refl) c.in_ok-behind_end.ensures.takes refl)
 
 pub returns-in-Some-clause-goes : goal.returns-in-Some-clause-goes
 returns-in-Some-clause-goes c = record { forward = omega (arith, (present classes.Word (lexeme c.args.tokens.now.source) (lexemes c.args.tokens.now) c.args.cursor c.in_ok-last.ensures c.in-Some.is).place, c.in_ok-behind_end.ensures.place); ends = (omega (arith, c.in_ok-behind_end.ensures.place, c.in_ok-behind_end.ensures.within)) }

@@ -3,8 +3,8 @@ use Rattle.ada_tree.specs.declared.token.Mark.TheVariants as marks
 use Rattle.ada_tree.specs.declared.words.Reserved.TheVariants as words
 use Rattle.ada_tree.specs.declared.forms.Region.TheVariants as regions
 use Rattle.ada_grammar.specs.Lexemes.{lexeme, lexemes}
-use Rattle.ada_grammar.specs.Grammar as parts
-use Rattle.ada_grammar.specs.Grammar.{mark, word, Gives, Call, Rest}
+use Rattle.ada_grammar.specs.Parts as parts
+use Rattle.ada_grammar.specs.Parts.{mark, word, Gives, Call, Rest}
 use Rattle.ada_grammar.proofs.Steps.{start, seen, unseen, done}
 use Rattle.ada_grammar.proofs.Answering.{passes_here, misses_here, refuses}
 use Rattle.ada_grammar.proofs.Joining.{absent, present, fault_found, found, finds_last, goes_on}
@@ -14,35 +14,35 @@ use Rattle.spark_parser.proofs.declarations.head_in_body.Goals as goal
 pub returns-in_err-behind_keyword-clause-reads : goal.returns-in_err-behind_keyword-clause-reads
 returns-in_err-behind_keyword-clause-reads c = λ os ds ho hd. fault_found (parts.BehindHead regions.Body c.args.head (lexeme c.args.tokens.now.source c.args.name) os ds) (lexemes c.args.tokens.now) c.args.cursor _ _ _ _ (passes_here (lexemes c.args.tokens.now) c.args.cursor c.args.cursor (word words.With) _ (start (parts.BehindHead regions.Body c.args.head (lexeme c.args.tokens.now.source c.args.name) os ds) _) (λ t. refl) c.in_err-behind_keyword.ensures) c.from_residual.ensures.1
 
-pub returns-in_err-behind_aspects-clause-reads : goal.returns-in_err-behind_aspects-clause-reads
-returns-in_err-behind_aspects-clause-reads c = λ os ds ho hd. fault_found (parts.BehindHead regions.Body c.args.head (lexeme c.args.tokens.now.source c.args.name) os ds) (lexemes c.args.tokens.now) c.args.cursor _ _ _ _ (refuses (lexemes c.args.tokens.now) c.args.cursor c.in-Some.behind_keyword _ (seen (start (parts.BehindHead regions.Body c.args.head (lexeme c.args.tokens.now.source c.args.name) os ds) _) (present (word words.With) (lexeme c.args.tokens.now.source) (lexemes c.args.tokens.now) c.args.cursor c.in_ok-behind_keyword.ensures c.in-Some.is).takes refl) (λ b. refl) (c.in_err-behind_aspects.ensures.reads _ ho)) c.from_residual-in_err-behind_aspects.ensures.1
+pub returns-in_err-next-clause-reads : goal.returns-in_err-next-clause-reads
+returns-in_err-next-clause-reads c = λ os ds ho hd. fault_found (parts.BehindHead regions.Body c.args.head (lexeme c.args.tokens.now.source c.args.name) os ds) (lexemes c.args.tokens.now) c.args.cursor _ _ _ _ (refuses (lexemes c.args.tokens.now) c.args.cursor c.in-Some.behind_keyword _ (seen (start (parts.BehindHead regions.Body c.args.head (lexeme c.args.tokens.now.source c.args.name) os ds) _) (present (word words.With) (lexeme c.args.tokens.now.source) (lexemes c.args.tokens.now) c.args.cursor c.in_ok-behind_keyword.ensures c.in-Some.is).takes refl) (λ b. refl) (c.in_err-next.ensures.reads _ ho)) c.from_residual-in_err-next.ensures.1
 
 pub returns-in_err-behind_end-clause-reads : goal.returns-in_err-behind_end-clause-reads
-returns-in_err-behind_end-clause-reads c = λ os ds ho hd. let f1 = c.in_ok-behind_aspects.ensures.reads _ ho in fault_found (parts.BehindHead regions.Body c.args.head (lexeme c.args.tokens.now.source c.args.name) os ds) (lexemes c.args.tokens.now) c.args.cursor _ _ _ _ (passes_here (lexemes c.args.tokens.now) c.args.cursor c.in_ok-behind_aspects.behind_aspects (mark marks.Semicolon) _ (done (seen (start (parts.BehindHead regions.Body c.args.head (lexeme c.args.tokens.now.source c.args.name) os ds) _) (present (word words.With) (lexeme c.args.tokens.now.source) (lexemes c.args.tokens.now) c.args.cursor c.in_ok-behind_keyword.ensures c.in-Some.is).takes refl) f1.reads (λ b. refl)) (λ t. refl) c.in_err-behind_end.ensures) c.from_residual-in_err-behind_end.ensures.1
+returns-in_err-behind_end-clause-reads c = λ os ds ho hd. let f1 = c.in_ok-next.ensures.reads _ ho in fault_found (parts.BehindHead regions.Body c.args.head (lexeme c.args.tokens.now.source c.args.name) os ds) (lexemes c.args.tokens.now) c.args.cursor _ _ _ _ (passes_here (lexemes c.args.tokens.now) c.args.cursor c.in_ok-next.next (mark marks.Semicolon) _ (done (seen (start (parts.BehindHead regions.Body c.args.head (lexeme c.args.tokens.now.source c.args.name) os ds) _) (present (word words.With) (lexeme c.args.tokens.now.source) (lexemes c.args.tokens.now) c.args.cursor c.in_ok-behind_keyword.ensures c.in-Some.is).takes refl) f1.reads (λ b. refl)) (λ t. refl) c.in_err-behind_end.ensures) c.from_residual-in_err-behind_end.ensures.1
 
 pub returns-in_err-declare-clause-grows : goal.returns-in_err-declare-clause-grows
-returns-in_err-declare-clause-grows c = (grows_on c.in_ok-behind_aspects.ensures.grows c.in_err-declare.ensures.grows)
+returns-in_err-declare-clause-grows c = (grows_on c.in_ok-next.ensures.grows c.in_err-declare.ensures.grows)
 
 pub returns-in-Some-2-clause-reads : goal.returns-in-Some-2-clause-reads
-returns-in-Some-2-clause-reads c = λ os ds ho hd. let f1 = c.in_ok-behind_aspects.ensures.reads _ ho in found (lexemes c.args.tokens.now) c.args.cursor c.in-Some-2.behind_end (c.in_ok-declare.ensures.builds _ _ f1.holds (holds_on c.in_ok-behind_aspects.ensures.grows hd)) (omega (arith, (present (word words.With) (lexeme c.args.tokens.now.source) (lexemes c.args.tokens.now) c.args.cursor c.in_ok-behind_keyword.ensures c.in-Some.is).place, c.in_ok-behind_aspects.ensures.goes.forward, (present (mark marks.Semicolon) (lexeme c.args.tokens.now.source) (lexemes c.args.tokens.now) c.in_ok-behind_aspects.behind_aspects c.in_ok-behind_end.ensures c.in-Some-2.is).place)) (omega (arith, (present (mark marks.Semicolon) (lexeme c.args.tokens.now.source) (lexemes c.args.tokens.now) c.in_ok-behind_aspects.behind_aspects c.in_ok-behind_end.ensures c.in-Some-2.is).place, (present (mark marks.Semicolon) (lexeme c.args.tokens.now.source) (lexemes c.args.tokens.now) c.in_ok-behind_aspects.behind_aspects c.in_ok-behind_end.ensures c.in-Some-2.is).within)) (seen (done (seen (start (parts.BehindHead regions.Body c.args.head (lexeme c.args.tokens.now.source c.args.name) os ds) _) (present (word words.With) (lexeme c.args.tokens.now.source) (lexemes c.args.tokens.now) c.args.cursor c.in_ok-behind_keyword.ensures c.in-Some.is).takes refl) f1.reads (λ b. refl)) (present (mark marks.Semicolon) (lexeme c.args.tokens.now.source) (lexemes c.args.tokens.now) c.in_ok-behind_aspects.behind_aspects c.in_ok-behind_end.ensures c.in-Some-2.is).takes refl)
+returns-in-Some-2-clause-reads c = λ os ds ho hd. let f1 = c.in_ok-next.ensures.reads _ ho in found (lexemes c.args.tokens.now) c.args.cursor c.in-Some-2.behind_end (c.in_ok-declare.ensures.builds _ _ f1.holds (holds_on f1.holds.ordered c.in_ok-next.ensures.grows hd)) (omega (arith, (present (word words.With) (lexeme c.args.tokens.now.source) (lexemes c.args.tokens.now) c.args.cursor c.in_ok-behind_keyword.ensures c.in-Some.is).place, c.in_ok-next.ensures.goes.forward, (present (mark marks.Semicolon) (lexeme c.args.tokens.now.source) (lexemes c.args.tokens.now) c.in_ok-next.next c.in_ok-behind_end.ensures c.in-Some-2.is).place)) (omega (arith, (present (mark marks.Semicolon) (lexeme c.args.tokens.now.source) (lexemes c.args.tokens.now) c.in_ok-next.next c.in_ok-behind_end.ensures c.in-Some-2.is).place, (present (mark marks.Semicolon) (lexeme c.args.tokens.now.source) (lexemes c.args.tokens.now) c.in_ok-next.next c.in_ok-behind_end.ensures c.in-Some-2.is).within)) (seen (done (seen (start (parts.BehindHead regions.Body c.args.head (lexeme c.args.tokens.now.source c.args.name) os ds) _) (present (word words.With) (lexeme c.args.tokens.now.source) (lexemes c.args.tokens.now) c.args.cursor c.in_ok-behind_keyword.ensures c.in-Some.is).takes refl) f1.reads (λ b. refl)) (present (mark marks.Semicolon) (lexeme c.args.tokens.now.source) (lexemes c.args.tokens.now) c.in_ok-next.next c.in_ok-behind_end.ensures c.in-Some-2.is).takes refl)
 
 pub returns-in-Some-2-clause-goes : goal.returns-in-Some-2-clause-goes
-returns-in-Some-2-clause-goes c = record { forward = omega (arith, (present (word words.With) (lexeme c.args.tokens.now.source) (lexemes c.args.tokens.now) c.args.cursor c.in_ok-behind_keyword.ensures c.in-Some.is).place, c.in_ok-behind_aspects.ensures.goes.forward, (present (mark marks.Semicolon) (lexeme c.args.tokens.now.source) (lexemes c.args.tokens.now) c.in_ok-behind_aspects.behind_aspects c.in_ok-behind_end.ensures c.in-Some-2.is).place); ends = (omega (arith, (present (mark marks.Semicolon) (lexeme c.args.tokens.now.source) (lexemes c.args.tokens.now) c.in_ok-behind_aspects.behind_aspects c.in_ok-behind_end.ensures c.in-Some-2.is).place, (present (mark marks.Semicolon) (lexeme c.args.tokens.now.source) (lexemes c.args.tokens.now) c.in_ok-behind_aspects.behind_aspects c.in_ok-behind_end.ensures c.in-Some-2.is).within)) }
+returns-in-Some-2-clause-goes c = record { forward = omega (arith, (present (word words.With) (lexeme c.args.tokens.now.source) (lexemes c.args.tokens.now) c.args.cursor c.in_ok-behind_keyword.ensures c.in-Some.is).place, c.in_ok-next.ensures.goes.forward, (present (mark marks.Semicolon) (lexeme c.args.tokens.now.source) (lexemes c.args.tokens.now) c.in_ok-next.next c.in_ok-behind_end.ensures c.in-Some-2.is).place); ends = (omega (arith, (present (mark marks.Semicolon) (lexeme c.args.tokens.now.source) (lexemes c.args.tokens.now) c.in_ok-next.next c.in_ok-behind_end.ensures c.in-Some-2.is).place, (present (mark marks.Semicolon) (lexeme c.args.tokens.now.source) (lexemes c.args.tokens.now) c.in_ok-next.next c.in_ok-behind_end.ensures c.in-Some-2.is).within)) }
 
 pub returns-in-Some-2-clause-grows : goal.returns-in-Some-2-clause-grows
-returns-in-Some-2-clause-grows c = (grows_on c.in_ok-behind_aspects.ensures.grows c.in_ok-declare.ensures.grows)
+returns-in-Some-2-clause-grows c = (grows_on c.in_ok-next.ensures.grows c.in_ok-declare.ensures.grows)
 
 pub returns-in_err-behind_behind-clause-reads : goal.returns-in_err-behind_behind-clause-reads
-returns-in_err-behind_behind-clause-reads c = λ os ds ho hd. let f1 = c.in_ok-behind_aspects.ensures.reads _ ho in fault_found (parts.BehindHead regions.Body c.args.head (lexeme c.args.tokens.now.source c.args.name) os ds) (lexemes c.args.tokens.now) c.args.cursor _ _ _ _ (misses_here (lexemes c.args.tokens.now) c.args.cursor c.in_ok-behind_aspects.behind_aspects (word words.Is) _ c.in_ok-behind_aspects.ensures.goes.ends (unseen (done (seen (start (parts.BehindHead regions.Body c.args.head (lexeme c.args.tokens.now.source c.args.name) os ds) _) (present (word words.With) (lexeme c.args.tokens.now.source) (lexemes c.args.tokens.now) c.args.cursor c.in_ok-behind_keyword.ensures c.in-Some.is).takes refl) f1.reads (λ b. refl)) (absent (mark marks.Semicolon) (lexeme c.args.tokens.now.source) (lexemes c.args.tokens.now) c.in_ok-behind_aspects.behind_aspects c.in_ok-behind_end.ensures c.in_default-2.is)) refl (λ t. refl) c.in_err-behind_behind.ensures) c.from_residual-in_err-behind_behind.ensures.1
+returns-in_err-behind_behind-clause-reads c = λ os ds ho hd. let f1 = c.in_ok-next.ensures.reads _ ho in fault_found (parts.BehindHead regions.Body c.args.head (lexeme c.args.tokens.now.source c.args.name) os ds) (lexemes c.args.tokens.now) c.args.cursor _ _ _ _ (misses_here (lexemes c.args.tokens.now) c.args.cursor c.in_ok-next.next (word words.Is) _ c.in_ok-next.ensures.goes.ends (unseen (done (seen (start (parts.BehindHead regions.Body c.args.head (lexeme c.args.tokens.now.source c.args.name) os ds) _) (present (word words.With) (lexeme c.args.tokens.now.source) (lexemes c.args.tokens.now) c.args.cursor c.in_ok-behind_keyword.ensures c.in-Some.is).takes refl) f1.reads (λ b. refl)) (absent (mark marks.Semicolon) (lexeme c.args.tokens.now.source) (lexemes c.args.tokens.now) c.in_ok-next.next c.in_ok-behind_end.ensures c.in_default-2.is)) refl (λ t. refl) c.in_err-behind_behind.ensures) c.from_residual-in_err-behind_behind.ensures.1
 
 pub returns-in-Some-clause-reads : goal.returns-in-Some-clause-reads
-returns-in-Some-clause-reads c = λ os ds ho hd. let f1 = c.in_ok-behind_aspects.ensures.reads _ ho in finds_last (lexemes c.args.tokens.now) c.args.cursor c.in_ok-behind_behind.behind_behind _ _ _ (seen (unseen (done (seen (start (parts.BehindHead regions.Body c.args.head (lexeme c.args.tokens.now.source c.args.name) os ds) _) (present (word words.With) (lexeme c.args.tokens.now.source) (lexemes c.args.tokens.now) c.args.cursor c.in_ok-behind_keyword.ensures c.in-Some.is).takes refl) f1.reads (λ b. refl)) (absent (mark marks.Semicolon) (lexeme c.args.tokens.now.source) (lexemes c.args.tokens.now) c.in_ok-behind_aspects.behind_aspects c.in_ok-behind_end.ensures c.in_default-2.is)) c.in_ok-behind_behind.ensures.takes refl) (omega (arith, (present (word words.With) (lexeme c.args.tokens.now.source) (lexemes c.args.tokens.now) c.args.cursor c.in_ok-behind_keyword.ensures c.in-Some.is).place, c.in_ok-behind_aspects.ensures.goes.forward, c.in_ok-behind_behind.ensures.place)) refl (c.subprogram_body.ensures.reads _ _ f1.holds (holds_on c.in_ok-behind_aspects.ensures.grows hd))
+returns-in-Some-clause-reads c = λ os ds ho hd. let f1 = c.in_ok-next.ensures.reads _ ho in finds_last (lexemes c.args.tokens.now) c.args.cursor c.in_ok-behind_behind.behind_behind _ _ _ (seen (unseen (done (seen (start (parts.BehindHead regions.Body c.args.head (lexeme c.args.tokens.now.source c.args.name) os ds) _) (present (word words.With) (lexeme c.args.tokens.now.source) (lexemes c.args.tokens.now) c.args.cursor c.in_ok-behind_keyword.ensures c.in-Some.is).takes refl) f1.reads (λ b. refl)) (absent (mark marks.Semicolon) (lexeme c.args.tokens.now.source) (lexemes c.args.tokens.now) c.in_ok-next.next c.in_ok-behind_end.ensures c.in_default-2.is)) c.in_ok-behind_behind.ensures.takes refl) (omega (arith, (present (word words.With) (lexeme c.args.tokens.now.source) (lexemes c.args.tokens.now) c.args.cursor c.in_ok-behind_keyword.ensures c.in-Some.is).place, c.in_ok-next.ensures.goes.forward, c.in_ok-behind_behind.ensures.place)) refl (c.subprogram_body.ensures.reads _ _ f1.holds (holds_on f1.holds.ordered c.in_ok-next.ensures.grows hd))
 
 pub returns-in-Some-clause-goes : goal.returns-in-Some-clause-goes
-returns-in-Some-clause-goes c = goes_on (lexemes c.args.tokens.now) c.args.cursor c.in_ok-behind_behind.behind_behind _ (omega (arith, (present (word words.With) (lexeme c.args.tokens.now.source) (lexemes c.args.tokens.now) c.args.cursor c.in_ok-behind_keyword.ensures c.in-Some.is).place, c.in_ok-behind_aspects.ensures.goes.forward, c.in_ok-behind_behind.ensures.place)) c.subprogram_body.ensures.goes
+returns-in-Some-clause-goes c = goes_on (lexemes c.args.tokens.now) c.args.cursor c.in_ok-behind_behind.behind_behind _ (omega (arith, (present (word words.With) (lexeme c.args.tokens.now.source) (lexemes c.args.tokens.now) c.args.cursor c.in_ok-behind_keyword.ensures c.in-Some.is).place, c.in_ok-next.ensures.goes.forward, c.in_ok-behind_behind.ensures.place)) c.subprogram_body.ensures.goes
 
 pub returns-in-Some-clause-grows : goal.returns-in-Some-clause-grows
-returns-in-Some-clause-grows c = (grows_on c.in_ok-behind_aspects.ensures.grows c.subprogram_body.ensures.grows)
+returns-in-Some-clause-grows c = (grows_on c.in_ok-next.ensures.grows c.subprogram_body.ensures.grows)
 
 pub returns-in_err-behind_end_2-clause-reads : goal.returns-in_err-behind_end_2-clause-reads
 returns-in_err-behind_end_2-clause-reads c = λ os ds ho hd. fault_found (parts.BehindHead regions.Body c.args.head (lexeme c.args.tokens.now.source c.args.name) os ds) (lexemes c.args.tokens.now) c.args.cursor _ _ _ _ (passes_here (lexemes c.args.tokens.now) c.args.cursor c.args.cursor (mark marks.Semicolon) _ (unseen (start (parts.BehindHead regions.Body c.args.head (lexeme c.args.tokens.now.source c.args.name) os ds) _) (absent (word words.With) (lexeme c.args.tokens.now.source) (lexemes c.args.tokens.now) c.args.cursor c.in_ok-behind_keyword.ensures c.in_default.is)) (λ t. refl) c.in_err-behind_end_2.ensures) c.from_residual-in_err-behind_end_2.ensures.1
@@ -53,11 +53,11 @@ returns-in-Some-3-clause-reads c = λ os ds ho hd. found (lexemes c.args.tokens.
 pub returns-in-Some-3-clause-goes : goal.returns-in-Some-3-clause-goes
 returns-in-Some-3-clause-goes c = record { forward = omega (arith, (present (mark marks.Semicolon) (lexeme c.args.tokens.now.source) (lexemes c.args.tokens.now) c.args.cursor c.in_ok-behind_end_2.ensures c.in-Some-3.is).place); ends = (omega (arith, (present (mark marks.Semicolon) (lexeme c.args.tokens.now.source) (lexemes c.args.tokens.now) c.args.cursor c.in_ok-behind_end_2.ensures c.in-Some-3.is).place, (present (mark marks.Semicolon) (lexeme c.args.tokens.now.source) (lexemes c.args.tokens.now) c.args.cursor c.in_ok-behind_end_2.ensures c.in-Some-3.is).within)) }
 
-pub returns-in_err-behind_keyword_2-clause-reads : goal.returns-in_err-behind_keyword_2-clause-reads
-returns-in_err-behind_keyword_2-clause-reads c = λ os ds ho hd. fault_found (parts.BehindHead regions.Body c.args.head (lexeme c.args.tokens.now.source c.args.name) os ds) (lexemes c.args.tokens.now) c.args.cursor _ _ _ _ (misses_here (lexemes c.args.tokens.now) c.args.cursor c.args.cursor (word words.Is) _ c.requires.at (unseen (unseen (start (parts.BehindHead regions.Body c.args.head (lexeme c.args.tokens.now.source c.args.name) os ds) _) (absent (word words.With) (lexeme c.args.tokens.now.source) (lexemes c.args.tokens.now) c.args.cursor c.in_ok-behind_keyword.ensures c.in_default.is)) (absent (mark marks.Semicolon) (lexeme c.args.tokens.now.source) (lexemes c.args.tokens.now) c.args.cursor c.in_ok-behind_end_2.ensures c.in_default-3.is)) refl (λ t. refl) c.in_err-behind_keyword_2.ensures) c.from_residual-in_err-behind_keyword_2.ensures.1
+pub returns-in_err-behind_is-clause-reads : goal.returns-in_err-behind_is-clause-reads
+returns-in_err-behind_is-clause-reads c = λ os ds ho hd. fault_found (parts.BehindHead regions.Body c.args.head (lexeme c.args.tokens.now.source c.args.name) os ds) (lexemes c.args.tokens.now) c.args.cursor _ _ _ _ (misses_here (lexemes c.args.tokens.now) c.args.cursor c.args.cursor (word words.Is) _ c.requires.at (unseen (unseen (start (parts.BehindHead regions.Body c.args.head (lexeme c.args.tokens.now.source c.args.name) os ds) _) (absent (word words.With) (lexeme c.args.tokens.now.source) (lexemes c.args.tokens.now) c.args.cursor c.in_ok-behind_keyword.ensures c.in_default.is)) (absent (mark marks.Semicolon) (lexeme c.args.tokens.now.source) (lexemes c.args.tokens.now) c.args.cursor c.in_ok-behind_end_2.ensures c.in_default-3.is)) refl (λ t. refl) c.in_err-behind_is.ensures) c.from_residual-in_err-behind_is.ensures.1
 
 pub returns-clause-reads : goal.returns-clause-reads
-returns-clause-reads c = λ os ds ho hd. finds_last (lexemes c.args.tokens.now) c.args.cursor c.in_ok-behind_keyword_2.behind_keyword_2 _ _ _ (seen (unseen (unseen (start (parts.BehindHead regions.Body c.args.head (lexeme c.args.tokens.now.source c.args.name) os ds) _) (absent (word words.With) (lexeme c.args.tokens.now.source) (lexemes c.args.tokens.now) c.args.cursor c.in_ok-behind_keyword.ensures c.in_default.is)) (absent (mark marks.Semicolon) (lexeme c.args.tokens.now.source) (lexemes c.args.tokens.now) c.args.cursor c.in_ok-behind_end_2.ensures c.in_default-3.is)) c.in_ok-behind_keyword_2.ensures.takes refl) (omega (arith, c.in_ok-behind_keyword_2.ensures.place)) refl (c.any_completion.ensures.reads _ _ ho hd)
+returns-clause-reads c = λ os ds ho hd. finds_last (lexemes c.args.tokens.now) c.args.cursor c.in_ok-behind_is.behind_is _ _ _ (seen (unseen (unseen (start (parts.BehindHead regions.Body c.args.head (lexeme c.args.tokens.now.source c.args.name) os ds) _) (absent (word words.With) (lexeme c.args.tokens.now.source) (lexemes c.args.tokens.now) c.args.cursor c.in_ok-behind_keyword.ensures c.in_default.is)) (absent (mark marks.Semicolon) (lexeme c.args.tokens.now.source) (lexemes c.args.tokens.now) c.args.cursor c.in_ok-behind_end_2.ensures c.in_default-3.is)) c.in_ok-behind_is.ensures.takes refl) (omega (arith, c.in_ok-behind_is.ensures.place)) refl (c.any_completion.ensures.reads _ _ ho hd)
 
 pub returns-clause-goes : goal.returns-clause-goes
-returns-clause-goes c = goes_on (lexemes c.args.tokens.now) c.args.cursor c.in_ok-behind_keyword_2.behind_keyword_2 _ (omega (arith, c.in_ok-behind_keyword_2.ensures.place)) c.any_completion.ensures.goes
+returns-clause-goes c = goes_on (lexemes c.args.tokens.now) c.args.cursor c.in_ok-behind_is.behind_is _ (omega (arith, c.in_ok-behind_is.ensures.place)) c.any_completion.ensures.goes

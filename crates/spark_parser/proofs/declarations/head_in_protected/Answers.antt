@@ -2,8 +2,8 @@ use Rattle.std.proofs.Common.{refl, map, arith, ap}
 use Rattle.ada_tree.specs.declared.declarations.DeclKind.TheVariants as decls
 use Rattle.ada_tree.specs.declared.forms.Region.TheVariants as regions
 use Rattle.ada_grammar.specs.Lexemes.{lexeme, lexemes}
-use Rattle.ada_grammar.specs.Grammar as parts
-use Rattle.ada_grammar.specs.Grammar.{mark, word, Gives, Call, Rest}
+use Rattle.ada_grammar.specs.Parts as parts
+use Rattle.ada_grammar.specs.Parts.{mark, word, Gives, Call, Rest}
 use Rattle.ada_grammar.proofs.Steps.{start}
 use Rattle.ada_grammar.proofs.Joining.{rest_as, finds_last, goes_on}
 use Rattle.spark_parser.proofs.declarations.head_in_protected.Goals as goal

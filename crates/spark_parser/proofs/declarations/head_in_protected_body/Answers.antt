@@ -2,8 +2,8 @@ use Rattle.std.proofs.Common.{refl, arith}
 use Rattle.ada_tree.specs.declared.words.Reserved.TheVariants as words
 use Rattle.ada_tree.specs.declared.forms.Region.TheVariants as regions
 use Rattle.ada_grammar.specs.Lexemes.{lexeme, lexemes}
-use Rattle.ada_grammar.specs.Grammar as parts
-use Rattle.ada_grammar.specs.Grammar.{mark, word, Gives, Call, Rest}
+use Rattle.ada_grammar.specs.Parts as parts
+use Rattle.ada_grammar.specs.Parts.{mark, word, Gives, Call, Rest}
 use Rattle.ada_grammar.proofs.Steps.{start, seen, unseen, done}
 use Rattle.ada_grammar.proofs.Answering.{passes_here, misses_here, refuses}
 use Rattle.ada_grammar.proofs.Joining.{absent, present, fault_found, finds_last, goes_on}
@@ -20,7 +20,7 @@ pub returns-in_err-behind_behind-clause-reads : goal.returns-in_err-behind_behin
 returns-in_err-behind_behind-clause-reads c = λ os ds ho hd. let f1 = c.in_ok-behind_aspects.ensures.reads _ ho in fault_found (parts.BehindHead regions.ProtectedBody c.args.head (lexeme c.args.tokens.now.source c.args.name) os ds) (lexemes c.args.tokens.now) c.args.cursor _ _ _ _ (misses_here (lexemes c.args.tokens.now) c.args.cursor c.in_ok-behind_aspects.behind_aspects (word words.Is) _ c.in_ok-behind_aspects.ensures.goes.ends (done (seen (start (parts.BehindHead regions.ProtectedBody c.args.head (lexeme c.args.tokens.now.source c.args.name) os ds) _) (present (word words.With) (lexeme c.args.tokens.now.source) (lexemes c.args.tokens.now) c.args.cursor c.in_ok-behind_keyword.ensures c.in-Some.is).takes refl) f1.reads (λ b. refl)) refl (λ t. refl) c.in_err-behind_behind.ensures) c.from_residual-in_err-behind_behind.ensures.1
 
 pub returns-in-Some-clause-reads : goal.returns-in-Some-clause-reads
-returns-in-Some-clause-reads c = λ os ds ho hd. let f1 = c.in_ok-behind_aspects.ensures.reads _ ho in finds_last (lexemes c.args.tokens.now) c.args.cursor c.in_ok-behind_behind.behind_behind _ _ _ (seen (done (seen (start (parts.BehindHead regions.ProtectedBody c.args.head (lexeme c.args.tokens.now.source c.args.name) os ds) _) (present (word words.With) (lexeme c.args.tokens.now.source) (lexemes c.args.tokens.now) c.args.cursor c.in_ok-behind_keyword.ensures c.in-Some.is).takes refl) f1.reads (λ b. refl)) c.in_ok-behind_behind.ensures.takes refl) (omega (arith, (present (word words.With) (lexeme c.args.tokens.now.source) (lexemes c.args.tokens.now) c.args.cursor c.in_ok-behind_keyword.ensures c.in-Some.is).place, c.in_ok-behind_aspects.ensures.goes.forward, c.in_ok-behind_behind.ensures.place)) refl (c.subprogram_body.ensures.reads _ _ f1.holds (holds_on c.in_ok-behind_aspects.ensures.grows hd))
+returns-in-Some-clause-reads c = λ os ds ho hd. let f1 = c.in_ok-behind_aspects.ensures.reads _ ho in finds_last (lexemes c.args.tokens.now) c.args.cursor c.in_ok-behind_behind.behind_behind _ _ _ (seen (done (seen (start (parts.BehindHead regions.ProtectedBody c.args.head (lexeme c.args.tokens.now.source c.args.name) os ds) _) (present (word words.With) (lexeme c.args.tokens.now.source) (lexemes c.args.tokens.now) c.args.cursor c.in_ok-behind_keyword.ensures c.in-Some.is).takes refl) f1.reads (λ b. refl)) c.in_ok-behind_behind.ensures.takes refl) (omega (arith, (present (word words.With) (lexeme c.args.tokens.now.source) (lexemes c.args.tokens.now) c.args.cursor c.in_ok-behind_keyword.ensures c.in-Some.is).place, c.in_ok-behind_aspects.ensures.goes.forward, c.in_ok-behind_behind.ensures.place)) refl (c.subprogram_body.ensures.reads _ _ f1.holds (holds_on f1.holds.ordered c.in_ok-behind_aspects.ensures.grows hd))
 
 pub returns-in-Some-clause-goes : goal.returns-in-Some-clause-goes
 returns-in-Some-clause-goes c = goes_on (lexemes c.args.tokens.now) c.args.cursor c.in_ok-behind_behind.behind_behind _ (omega (arith, (present (word words.With) (lexeme c.args.tokens.now.source) (lexemes c.args.tokens.now) c.args.cursor c.in_ok-behind_keyword.ensures c.in-Some.is).place, c.in_ok-behind_aspects.ensures.goes.forward, c.in_ok-behind_behind.ensures.place)) c.subprogram_body.ensures.goes

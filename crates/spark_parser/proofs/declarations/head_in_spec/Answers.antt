@@ -3,8 +3,8 @@ use Rattle.ada_tree.specs.declared.token.Mark.TheVariants as marks
 use Rattle.ada_tree.specs.declared.words.Reserved.TheVariants as words
 use Rattle.ada_tree.specs.declared.forms.Region.TheVariants as regions
 use Rattle.ada_grammar.specs.Lexemes.{lexeme, lexemes}
-use Rattle.ada_grammar.specs.Grammar as parts
-use Rattle.ada_grammar.specs.Grammar.{mark, word, Gives, Call, Rest}
+use Rattle.ada_grammar.specs.Parts as parts
+use Rattle.ada_grammar.specs.Parts.{mark, word, Gives, Call, Rest}
 use Rattle.ada_grammar.proofs.Steps.{start, seen, unseen, done}
 use Rattle.ada_grammar.proofs.Answering.{passes_here, misses_here, refuses}
 use Rattle.ada_grammar.proofs.Joining.{absent, present, fault_found, found, finds_last, goes_on}
@@ -24,7 +24,7 @@ pub returns-in_err-declare-clause-grows : goal.returns-in_err-declare-clause-gro
 returns-in_err-declare-clause-grows c = (grows_on c.in_ok-behind_aspects.ensures.grows c.in_err-declare.ensures.grows)
 
 pub returns-in-Some-clause-reads : goal.returns-in-Some-clause-reads
-returns-in-Some-clause-reads c = λ os ds ho hd. let f1 = c.in_ok-behind_aspects.ensures.reads _ ho in found (lexemes c.args.tokens.now) c.args.cursor c.in_ok-behind_end.behind_end (c.in_ok-declare.ensures.builds _ _ f1.holds (holds_on c.in_ok-behind_aspects.ensures.grows hd)) (omega (arith, (present (word words.With) (lexeme c.args.tokens.now.source) (lexemes c.args.tokens.now) c.args.cursor c.in_ok-behind_keyword.ensures c.in-Some.is).place, c.in_ok-behind_aspects.ensures.goes.forward, c.in_ok-behind_end.ensures.place)) (omega (arith, c.in_ok-behind_end.ensures.place, c.in_ok-behind_end.ensures.within)) (seen (done (seen (start (parts.BehindHead regions.Spec c.args.head (lexeme c.args.tokens.now.source c.args.name) os ds) _) (present (word words.With) (lexeme c.args.tokens.now.source) (lexemes c.args.tokens.now) c.args.cursor c.in_ok-behind_keyword.ensures c.in-Some.is).takes refl) f1.reads (λ b. refl)) c.in_ok-behind_end.ensures.takes refl)
+returns-in-Some-clause-reads c = λ os ds ho hd. let f1 = c.in_ok-behind_aspects.ensures.reads _ ho in found (lexemes c.args.tokens.now) c.args.cursor c.in_ok-behind_end.behind_end (c.in_ok-declare.ensures.builds _ _ f1.holds (holds_on f1.holds.ordered c.in_ok-behind_aspects.ensures.grows hd)) (omega (arith, (present (word words.With) (lexeme c.args.tokens.now.source) (lexemes c.args.tokens.now) c.args.cursor c.in_ok-behind_keyword.ensures c.in-Some.is).place, c.in_ok-behind_aspects.ensures.goes.forward, c.in_ok-behind_end.ensures.place)) (omega (arith, c.in_ok-behind_end.ensures.place, c.in_ok-behind_end.ensures.within)) (seen (done (seen (start (parts.BehindHead regions.Spec c.args.head (lexeme c.args.tokens.now.source c.args.name) os ds) _) (present (word words.With) (lexeme c.args.tokens.now.source) (lexemes c.args.tokens.now) c.args.cursor c.in_ok-behind_keyword.ensures c.in-Some.is).takes refl) f1.reads (λ b. refl)) c.in_ok-behind_end.ensures.takes refl)
 
 pub returns-in-Some-clause-goes : goal.returns-in-Some-clause-goes
 returns-in-Some-clause-goes c = record { forward = omega (arith, (present (word words.With) (lexeme c.args.tokens.now.source) (lexemes c.args.tokens.now) c.args.cursor c.in_ok-behind_keyword.ensures c.in-Some.is).place, c.in_ok-behind_aspects.ensures.goes.forward, c.in_ok-behind_end.ensures.place); ends = (omega (arith, c.in_ok-behind_end.ensures.place, c.in_ok-behind_end.ensures.within)) }
@@ -41,11 +41,11 @@ returns-in-Some-2-clause-reads c = λ os ds ho hd. found (lexemes c.args.tokens.
 pub returns-in-Some-2-clause-goes : goal.returns-in-Some-2-clause-goes
 returns-in-Some-2-clause-goes c = record { forward = omega (arith, (present (mark marks.Semicolon) (lexeme c.args.tokens.now.source) (lexemes c.args.tokens.now) c.args.cursor c.in_ok-behind_end_2.ensures c.in-Some-2.is).place); ends = (omega (arith, (present (mark marks.Semicolon) (lexeme c.args.tokens.now.source) (lexemes c.args.tokens.now) c.args.cursor c.in_ok-behind_end_2.ensures c.in-Some-2.is).place, (present (mark marks.Semicolon) (lexeme c.args.tokens.now.source) (lexemes c.args.tokens.now) c.args.cursor c.in_ok-behind_end_2.ensures c.in-Some-2.is).within)) }
 
-pub returns-in_err-behind_keyword_2-clause-reads : goal.returns-in_err-behind_keyword_2-clause-reads
-returns-in_err-behind_keyword_2-clause-reads c = λ os ds ho hd. fault_found (parts.BehindHead regions.Spec c.args.head (lexeme c.args.tokens.now.source c.args.name) os ds) (lexemes c.args.tokens.now) c.args.cursor _ _ _ _ (misses_here (lexemes c.args.tokens.now) c.args.cursor c.args.cursor (word words.Is) _ c.requires.at (unseen (unseen (start (parts.BehindHead regions.Spec c.args.head (lexeme c.args.tokens.now.source c.args.name) os ds) _) (absent (word words.With) (lexeme c.args.tokens.now.source) (lexemes c.args.tokens.now) c.args.cursor c.in_ok-behind_keyword.ensures c.in_default.is)) (absent (mark marks.Semicolon) (lexeme c.args.tokens.now.source) (lexemes c.args.tokens.now) c.args.cursor c.in_ok-behind_end_2.ensures c.in_default-2.is)) refl (λ t. refl) c.in_err-behind_keyword_2.ensures) c.from_residual-in_err-behind_keyword_2.ensures.1
+pub returns-in_err-behind_is-clause-reads : goal.returns-in_err-behind_is-clause-reads
+returns-in_err-behind_is-clause-reads c = λ os ds ho hd. fault_found (parts.BehindHead regions.Spec c.args.head (lexeme c.args.tokens.now.source c.args.name) os ds) (lexemes c.args.tokens.now) c.args.cursor _ _ _ _ (misses_here (lexemes c.args.tokens.now) c.args.cursor c.args.cursor (word words.Is) _ c.requires.at (unseen (unseen (start (parts.BehindHead regions.Spec c.args.head (lexeme c.args.tokens.now.source c.args.name) os ds) _) (absent (word words.With) (lexeme c.args.tokens.now.source) (lexemes c.args.tokens.now) c.args.cursor c.in_ok-behind_keyword.ensures c.in_default.is)) (absent (mark marks.Semicolon) (lexeme c.args.tokens.now.source) (lexemes c.args.tokens.now) c.args.cursor c.in_ok-behind_end_2.ensures c.in_default-2.is)) refl (λ t. refl) c.in_err-behind_is.ensures) c.from_residual-in_err-behind_is.ensures.1
 
 pub returns-clause-reads : goal.returns-clause-reads
-returns-clause-reads c = λ os ds ho hd. finds_last (lexemes c.args.tokens.now) c.args.cursor c.in_ok-behind_keyword_2.behind_keyword_2 _ _ _ (seen (unseen (unseen (start (parts.BehindHead regions.Spec c.args.head (lexeme c.args.tokens.now.source c.args.name) os ds) _) (absent (word words.With) (lexeme c.args.tokens.now.source) (lexemes c.args.tokens.now) c.args.cursor c.in_ok-behind_keyword.ensures c.in_default.is)) (absent (mark marks.Semicolon) (lexeme c.args.tokens.now.source) (lexemes c.args.tokens.now) c.args.cursor c.in_ok-behind_end_2.ensures c.in_default-2.is)) c.in_ok-behind_keyword_2.ensures.takes refl) (omega (arith, c.in_ok-behind_keyword_2.ensures.place)) refl (c.null_or_value.ensures.reads _ _ ho hd)
+returns-clause-reads c = λ os ds ho hd. finds_last (lexemes c.args.tokens.now) c.args.cursor c.in_ok-behind_is.behind_is _ _ _ (seen (unseen (unseen (start (parts.BehindHead regions.Spec c.args.head (lexeme c.args.tokens.now.source c.args.name) os ds) _) (absent (word words.With) (lexeme c.args.tokens.now.source) (lexemes c.args.tokens.now) c.args.cursor c.in_ok-behind_keyword.ensures c.in_default.is)) (absent (mark marks.Semicolon) (lexeme c.args.tokens.now.source) (lexemes c.args.tokens.now) c.args.cursor c.in_ok-behind_end_2.ensures c.in_default-2.is)) c.in_ok-behind_is.ensures.takes refl) (omega (arith, c.in_ok-behind_is.ensures.place)) refl (c.null_or_value.ensures.reads _ _ ho hd)
 
 pub returns-clause-goes : goal.returns-clause-goes
-returns-clause-goes c = goes_on (lexemes c.args.tokens.now) c.args.cursor c.in_ok-behind_keyword_2.behind_keyword_2 _ (omega (arith, c.in_ok-behind_keyword_2.ensures.place)) c.null_or_value.ensures.goes
+returns-clause-goes c = goes_on (lexemes c.args.tokens.now) c.args.cursor c.in_ok-behind_is.behind_is _ (omega (arith, c.in_ok-behind_is.ensures.place)) c.null_or_value.ensures.goes

@@ -1,8 +1,8 @@
 use Rattle.std.proofs.Common.{refl, arith, sym, ◌∙◌}
 use Rattle.ada_tree.specs.declared.forms.OperationForm.TheVariants as operations
 use Rattle.ada_grammar.specs.Lexemes.{lexeme, lexemes}
-use Rattle.ada_grammar.specs.Grammar as parts
-use Rattle.ada_grammar.specs.Grammar.{mark, word, Gives, Call, Rest}
+use Rattle.ada_grammar.specs.Parts as parts
+use Rattle.ada_grammar.specs.Parts.{mark, word, Gives, Call, Rest}
 use Rattle.ada_grammar.proofs.Steps.{start}
 use Rattle.ada_grammar.proofs.Joining.{finds_last, goes_on, of_form}
 use Rattle.ada_stmts.proofs.Passing.{passes_over, goes_over}

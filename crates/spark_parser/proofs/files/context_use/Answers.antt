@@ -1,7 +1,7 @@
 use Rattle.std.proofs.Common.{refl, arith}
 use Rattle.ada_tree.specs.declared.words.Reserved.TheVariants as words
 use Rattle.ada_grammar.specs.Lexemes.{lexeme, lexemes}
-use Rattle.ada_grammar.specs.Grammar.{word}
+use Rattle.ada_grammar.specs.Parts.{word}
 use Rattle.ada_grammar.proofs.Steps.{opened, seen, unseen, done}
 use Rattle.ada_grammar.proofs.Answering.{passes_here, refuses}
 use Rattle.ada_grammar.proofs.Joining.{absent, present}

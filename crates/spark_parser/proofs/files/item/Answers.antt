@@ -1,7 +1,7 @@
 use Rattle.std.proofs.Common.{sym, ◌∙◌}
 use Rattle.ada_grammar.specs.Lexemes.{lexeme}
-use Rattle.ada_grammar.specs.Grammar as parts
-use Rattle.ada_grammar.specs.Grammar.{word}
+use Rattle.ada_grammar.specs.Parts as parts
+use Rattle.ada_grammar.specs.Parts.{word}
 use Rattle.ada_grammar.proofs.Joining.{rest_as}
 use Rattle.spark_parser.proofs.files.item.Goals as goal
 

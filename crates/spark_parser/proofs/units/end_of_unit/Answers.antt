@@ -3,8 +3,8 @@ use Rattle.ada_tree.specs.declared.token.Mark.TheVariants as marks
 use Rattle.ada_grammar.specs.declared.tokens.Class.TheVariants as classes
 use Rattle.ada_grammar.specs.Lexemes.{lexeme, lexemes}
 use Rattle.ada_grammar.specs.Phrases as phrases
-use Rattle.ada_grammar.specs.Grammar as parts
-use Rattle.ada_grammar.specs.Grammar.{mark, word, Gives, Call, Rest}
+use Rattle.ada_grammar.specs.Parts as parts
+use Rattle.ada_grammar.specs.Parts.{mark, word, Gives, Call, Rest}
 use Rattle.ada_grammar.proofs.Steps.{start, seen, unseen}
 use Rattle.ada_grammar.proofs.Answering.{passes_here, misses_here}
 use Rattle.ada_grammar.proofs.Joining.{absent, present}
@@ -32,7 +32,7 @@ pub returns-in_err-add_unit-clause-widens : goal.returns-in_err-add_unit-clause-
 returns-in_err-add_unit-clause-widens c = (widens_on c.in_ok-add_end_name.ensures.grows.widens c.in_err-add_unit.ensures.widens)
 
 pub returns-in-Some-clause-reads : goal.returns-in-Some-clause-reads
-returns-in-Some-clause-reads c = λ os ds ho. unit_found (lexemes c.args.tokens.now) c.args.cursor c.in_ok-behind_end.behind_end _ c.in_ok-add_end_name.ensures.grows.units (stands_as (λ k. phrases.named_tree (phrases.OfUnit k) (lexeme c.args.tokens.now.source c.args.name) (phrases.with_expr os (phrases.end_name (lexeme c.args.tokens.now.source c.in-Some.last)))) c.unit_end-kind.ensures (c.in_ok-add_unit.ensures.builds _ (c.in_ok-add_end_name.ensures.builds _ ho))) (omega (arith, (present classes.Word (lexeme c.args.tokens.now.source) (lexemes c.args.tokens.now) c.args.cursor c.in_ok-last.ensures c.in-Some.is).place, c.in_ok-behind_end.ensures.place)) (omega (arith, c.in_ok-behind_end.ensures.place, c.in_ok-behind_end.ensures.within)) (seen (seen (start (parts.EndOfUnit c.args.kind (lexeme c.args.tokens.now.source c.args.name) os ds) _) (present classes.Word (lexeme c.args.tokens.now.source) (lexemes c.args.tokens.now) c.args.cursor c.in_ok-last.ensures c.in-Some.is).takes refl) c.in_ok-behind_end.ensures.takes refl)
+returns-in-Some-clause-reads c = λ os ds ho. let b = c.in_ok-add_end_name.ensures.builds _ ho in unit_found (lexemes c.args.tokens.now) c.args.cursor c.in_ok-behind_end.behind_end _ c.in_ok-add_end_name.ensures.grows.units (stands_as (λ k. phrases.named_tree (phrases.OfUnit k) (lexeme c.args.tokens.now.source c.args.name) (phrases.with_expr os (phrases.end_name (lexeme c.args.tokens.now.source c.in-Some.last)))) c.unit_end-kind.ensures (c.in_ok-add_unit.ensures.builds _ b)) (c.in_ok-add_unit.ensures.ordered _ b) (omega (arith, (present classes.Word (lexeme c.args.tokens.now.source) (lexemes c.args.tokens.now) c.args.cursor c.in_ok-last.ensures c.in-Some.is).place, c.in_ok-behind_end.ensures.place)) (omega (arith, c.in_ok-behind_end.ensures.place, c.in_ok-behind_end.ensures.within)) (seen (seen (start (parts.EndOfUnit c.args.kind (lexeme c.args.tokens.now.source c.args.name) os ds) _) (present classes.Word (lexeme c.args.tokens.now.source) (lexemes c.args.tokens.now) c.args.cursor c.in_ok-last.ensures c.in-Some.is).takes refl) c.in_ok-behind_end.ensures.takes refl)
 
 pub returns-in-Some-clause-goes : goal.returns-in-Some-clause-goes
 returns-in-Some-clause-goes c = record { forward = omega (arith, (present classes.Word (lexeme c.args.tokens.now.source) (lexemes c.args.tokens.now) c.args.cursor c.in_ok-last.ensures c.in-Some.is).place, c.in_ok-behind_end.ensures.place); ends = (omega (arith, c.in_ok-behind_end.ensures.place, c.in_ok-behind_end.ensures.within)) }
@@ -53,7 +53,7 @@ pub returns-in_err-add_unit-2-clause-widens : goal.returns-in_err-add_unit-2-cla
 returns-in_err-add_unit-2-clause-widens c = (widens_on (grows_same _).widens c.in_err-add_unit-2.ensures.widens)
 
 pub returns-clause-reads : goal.returns-clause-reads
-returns-clause-reads c = λ os ds ho. unit_found (lexemes c.args.tokens.now) c.args.cursor c.in_ok-behind_end_2.behind_end_2 _ refl (c.in_ok-add_unit-2.ensures.builds _ ho) (omega (arith, c.in_ok-behind_end_2.ensures.place)) (omega (arith, c.in_ok-behind_end_2.ensures.place, c.in_ok-behind_end_2.ensures.within)) (seen (unseen (start (parts.EndOfUnit c.args.kind (lexeme c.args.tokens.now.source c.args.name) os ds) _) (absent classes.Word (lexeme c.args.tokens.now.source) (lexemes c.args.tokens.now) c.args.cursor c.in_ok-last.ensures c.in_default.is)) c.in_ok-behind_end_2.ensures.takes refl)
+returns-clause-reads c = λ os ds ho. unit_found (lexemes c.args.tokens.now) c.args.cursor c.in_ok-behind_end_2.behind_end_2 _ refl (c.in_ok-add_unit-2.ensures.builds _ ho) (c.in_ok-add_unit-2.ensures.ordered _ ho) (omega (arith, c.in_ok-behind_end_2.ensures.place)) (omega (arith, c.in_ok-behind_end_2.ensures.place, c.in_ok-behind_end_2.ensures.within)) (seen (unseen (start (parts.EndOfUnit c.args.kind (lexeme c.args.tokens.now.source c.args.name) os ds) _) (absent classes.Word (lexeme c.args.tokens.now.source) (lexemes c.args.tokens.now) c.args.cursor c.in_ok-last.ensures c.in_default.is)) c.in_ok-behind_end_2.ensures.takes refl)
 
 pub returns-clause-goes : goal.returns-clause-goes
 returns-clause-goes c = record { forward = omega (arith, c.in_ok-behind_end_2.ensures.place); ends = (omega (arith, c.in_ok-behind_end_2.ensures.place, c.in_ok-behind_end_2.ensures.within)) }

@@ -1,8 +1,8 @@
 use Rattle.std.proofs.Common.{refl, arith}
 use Rattle.ada_tree.specs.declared.words.Reserved.TheVariants as words
 use Rattle.ada_grammar.specs.Lexemes.{lexeme, lexemes}
-use Rattle.ada_grammar.specs.Grammar as parts
-use Rattle.ada_grammar.specs.Grammar.{mark, word, Gives, Call, Rest}
+use Rattle.ada_grammar.specs.Parts as parts
+use Rattle.ada_grammar.specs.Parts.{mark, word, Gives, Call, Rest}
 use Rattle.ada_grammar.proofs.Steps.{start, seen, unseen}
 use Rattle.ada_grammar.proofs.Answering.{passes_here}
 use Rattle.ada_grammar.proofs.Joining.{absent, present, goes_on}

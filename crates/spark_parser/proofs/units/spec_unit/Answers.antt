@@ -2,8 +2,8 @@ use Rattle.std.proofs.Common.{refl, arith}
 use Rattle.ada_tree.specs.declared.words.Reserved.TheVariants as words
 use Rattle.ada_grammar.specs.declared.tokens.Class.TheVariants as classes
 use Rattle.ada_grammar.specs.Lexemes.{lexeme, lexemes}
-use Rattle.ada_grammar.specs.Grammar as parts
-use Rattle.ada_grammar.specs.Grammar.{mark, word, Gives, Call, Rest}
+use Rattle.ada_grammar.specs.Parts as parts
+use Rattle.ada_grammar.specs.Parts.{mark, word, Gives, Call, Rest}
 use Rattle.ada_grammar.proofs.Steps.{start, seen, unseen, done}
 use Rattle.ada_grammar.proofs.Answering.{passes_here, misses_here, refuses}
 use Rattle.ada_grammar.proofs.Joining.{absent, present, goes_on}
@@ -30,59 +30,59 @@ returns-in_err-behind_keyword-clause-reads c = λ os ds ho. let f1 = c.in_ok-beh
 pub returns-in_err-behind_keyword-clause-widens : goal.returns-in_err-behind_keyword-clause-widens
 returns-in_err-behind_keyword-clause-widens c = c.in_ok-behind_aspects.ensures.grows.widens
 
-pub returns-in_err-behind_items-clause-reads : goal.returns-in_err-behind_items-clause-reads
-returns-in_err-behind_items-clause-reads c = λ os ds ho. let f1 = c.in_ok-behind_aspects.ensures.reads _ ho in fault_unit (parts.SpecUnit os ds) (lexemes c.args.tokens.now) c.args.cursor _ _ _ _ _ (refuses (lexemes c.args.tokens.now) c.args.cursor c.in_ok-behind_keyword.behind_keyword _ (seen (done (seen (start (parts.SpecUnit os ds) _) c.in_ok-name.ensures.takes refl) f1.reads (λ b. refl)) c.in_ok-behind_keyword.ensures.takes refl) (λ b. refl) (c.in_err-behind_items.ensures.reads _ f1.holds)) c.from_residual-in_err-behind_items.ensures.1
+pub returns-in_err-next-clause-reads : goal.returns-in_err-next-clause-reads
+returns-in_err-next-clause-reads c = λ os ds ho. let f1 = c.in_ok-behind_aspects.ensures.reads _ ho in fault_unit (parts.SpecUnit os ds) (lexemes c.args.tokens.now) c.args.cursor _ _ _ _ _ (refuses (lexemes c.args.tokens.now) c.args.cursor c.in_ok-behind_keyword.behind_keyword _ (seen (done (seen (start (parts.SpecUnit os ds) _) c.in_ok-name.ensures.takes refl) f1.reads (λ b. refl)) c.in_ok-behind_keyword.ensures.takes refl) (λ b. refl) (c.in_err-next.ensures.reads _ f1.holds)) c.from_residual-in_err-next.ensures.1
 
-pub returns-in_err-behind_items-clause-widens : goal.returns-in_err-behind_items-clause-widens
-returns-in_err-behind_items-clause-widens c = (grows_on c.in_ok-behind_aspects.ensures.grows c.in_err-behind_items.ensures.grows).widens
+pub returns-in_err-next-clause-widens : goal.returns-in_err-next-clause-widens
+returns-in_err-next-clause-widens c = (grows_on c.in_ok-behind_aspects.ensures.grows c.in_err-next.ensures.grows).widens
 
 pub returns-in_err-private-clause-reads : goal.returns-in_err-private-clause-reads
-returns-in_err-private-clause-reads c = λ os ds ho. let f1 = c.in_ok-behind_aspects.ensures.reads _ ho in let f2 = c.in_ok-behind_items.ensures.reads _ f1.holds in fault_unit (parts.SpecUnit os ds) (lexemes c.args.tokens.now) c.args.cursor _ _ _ _ _ (passes_here (lexemes c.args.tokens.now) c.args.cursor c.in_ok-behind_items.behind_items (word words.Private) _ (done (seen (done (seen (start (parts.SpecUnit os ds) _) c.in_ok-name.ensures.takes refl) f1.reads (λ b. refl)) c.in_ok-behind_keyword.ensures.takes refl) f2.reads (λ b. refl)) (λ t. refl) c.in_err-private.ensures) c.from_residual-in_err-private.ensures.1
+returns-in_err-private-clause-reads c = λ os ds ho. let f1 = c.in_ok-behind_aspects.ensures.reads _ ho in let f2 = c.in_ok-next.ensures.reads _ f1.holds in fault_unit (parts.SpecUnit os ds) (lexemes c.args.tokens.now) c.args.cursor _ _ _ _ _ (passes_here (lexemes c.args.tokens.now) c.args.cursor c.in_ok-next.next (word words.Private) _ (done (seen (done (seen (start (parts.SpecUnit os ds) _) c.in_ok-name.ensures.takes refl) f1.reads (λ b. refl)) c.in_ok-behind_keyword.ensures.takes refl) f2.reads (λ b. refl)) (λ t. refl) c.in_err-private.ensures) c.from_residual-in_err-private.ensures.1
 
 pub returns-in_err-private-clause-widens : goal.returns-in_err-private-clause-widens
-returns-in_err-private-clause-widens c = (grows_on c.in_ok-behind_aspects.ensures.grows c.in_ok-behind_items.ensures.grows).widens
+returns-in_err-private-clause-widens c = (grows_on c.in_ok-behind_aspects.ensures.grows c.in_ok-next.ensures.grows).widens
 
-pub returns-in_err-behind_items_2-clause-reads : goal.returns-in_err-behind_items_2-clause-reads
-returns-in_err-behind_items_2-clause-reads c = λ os ds ho. let f1 = c.in_ok-behind_aspects.ensures.reads _ ho in let f2 = c.in_ok-behind_items.ensures.reads _ f1.holds in fault_unit (parts.SpecUnit os ds) (lexemes c.args.tokens.now) c.args.cursor _ _ _ _ _ (refuses (lexemes c.args.tokens.now) c.args.cursor c.in-Some.behind_private _ (seen (done (seen (done (seen (start (parts.SpecUnit os ds) _) c.in_ok-name.ensures.takes refl) f1.reads (λ b. refl)) c.in_ok-behind_keyword.ensures.takes refl) f2.reads (λ b. refl)) (present (word words.Private) (lexeme c.args.tokens.now.source) (lexemes c.args.tokens.now) c.in_ok-behind_items.behind_items c.in_ok-private.ensures c.in-Some.is).takes refl) (λ b. refl) (c.in_err-behind_items_2.ensures.reads _ (c.new-hidden.ensures _))) c.from_residual-in_err-behind_items_2.ensures.1
+pub returns-in_err-behind_items-clause-reads : goal.returns-in_err-behind_items-clause-reads
+returns-in_err-behind_items-clause-reads c = λ os ds ho. let f1 = c.in_ok-behind_aspects.ensures.reads _ ho in let f2 = c.in_ok-next.ensures.reads _ f1.holds in fault_unit (parts.SpecUnit os ds) (lexemes c.args.tokens.now) c.args.cursor _ _ _ _ _ (refuses (lexemes c.args.tokens.now) c.args.cursor c.in-Some.inside _ (seen (done (seen (done (seen (start (parts.SpecUnit os ds) _) c.in_ok-name.ensures.takes refl) f1.reads (λ b. refl)) c.in_ok-behind_keyword.ensures.takes refl) f2.reads (λ b. refl)) (present (word words.Private) (lexeme c.args.tokens.now.source) (lexemes c.args.tokens.now) c.in_ok-next.next c.in_ok-private.ensures c.in-Some.is).takes refl) (λ b. refl) (c.in_err-behind_items.ensures.reads _ (c.new-hidden.ensures _ f2.holds.ordered))) c.from_residual-in_err-behind_items.ensures.1
 
-pub returns-in_err-behind_items_2-clause-widens : goal.returns-in_err-behind_items_2-clause-widens
-returns-in_err-behind_items_2-clause-widens c = (grows_on (grows_on c.in_ok-behind_aspects.ensures.grows c.in_ok-behind_items.ensures.grows) c.in_err-behind_items_2.ensures.grows).widens
+pub returns-in_err-behind_items-clause-widens : goal.returns-in_err-behind_items-clause-widens
+returns-in_err-behind_items-clause-widens c = (grows_on (grows_on c.in_ok-behind_aspects.ensures.grows c.in_ok-next.ensures.grows) c.in_err-behind_items.ensures.grows).widens
 
 pub returns-in_err-add_declaration-clause-widens : goal.returns-in_err-add_declaration-clause-widens
-returns-in_err-add_declaration-clause-widens c = (grows_on (grows_on (grows_on c.in_ok-behind_aspects.ensures.grows c.in_ok-behind_items.ensures.grows) c.in_ok-behind_items_2.ensures.grows) c.in_err-add_declaration.ensures.grows).widens
+returns-in_err-add_declaration-clause-widens c = (grows_on (grows_on (grows_on c.in_ok-behind_aspects.ensures.grows c.in_ok-next.ensures.grows) c.in_ok-behind_items.ensures.grows) c.in_err-add_declaration.ensures.grows).widens
 
 pub returns-in_err-behind_end-clause-reads : goal.returns-in_err-behind_end-clause-reads
-returns-in_err-behind_end-clause-reads c = λ os ds ho. let f1 = c.in_ok-behind_aspects.ensures.reads _ ho in let f2 = c.in_ok-behind_items.ensures.reads _ f1.holds in let f3 = c.in_ok-behind_items_2.ensures.reads _ (c.new-hidden.ensures _) in fault_unit (parts.SpecUnit os ds) (lexemes c.args.tokens.now) c.args.cursor _ _ _ _ _ (misses_here (lexemes c.args.tokens.now) c.args.cursor c.in_ok-behind_items_2.behind_items_2 (word words.End) _ c.in_ok-behind_items_2.ensures.goes.ends (done (seen (done (seen (done (seen (start (parts.SpecUnit os ds) _) c.in_ok-name.ensures.takes refl) f1.reads (λ b. refl)) c.in_ok-behind_keyword.ensures.takes refl) f2.reads (λ b. refl)) (present (word words.Private) (lexeme c.args.tokens.now.source) (lexemes c.args.tokens.now) c.in_ok-behind_items.behind_items c.in_ok-private.ensures c.in-Some.is).takes refl) f3.reads (λ b. refl)) refl (λ t. refl) c.in_err-behind_end.ensures) c.from_residual-in_err-behind_end.ensures.1
+returns-in_err-behind_end-clause-reads c = λ os ds ho. let f1 = c.in_ok-behind_aspects.ensures.reads _ ho in let f2 = c.in_ok-next.ensures.reads _ f1.holds in let f3 = c.in_ok-behind_items.ensures.reads _ (c.new-hidden.ensures _ f2.holds.ordered) in fault_unit (parts.SpecUnit os ds) (lexemes c.args.tokens.now) c.args.cursor _ _ _ _ _ (misses_here (lexemes c.args.tokens.now) c.args.cursor c.in_ok-behind_items.behind_items (word words.End) _ c.in_ok-behind_items.ensures.goes.ends (done (seen (done (seen (done (seen (start (parts.SpecUnit os ds) _) c.in_ok-name.ensures.takes refl) f1.reads (λ b. refl)) c.in_ok-behind_keyword.ensures.takes refl) f2.reads (λ b. refl)) (present (word words.Private) (lexeme c.args.tokens.now.source) (lexemes c.args.tokens.now) c.in_ok-next.next c.in_ok-private.ensures c.in-Some.is).takes refl) f3.reads (λ b. refl)) refl (λ t. refl) c.in_err-behind_end.ensures) c.from_residual-in_err-behind_end.ensures.1
 
 pub returns-in_err-behind_end-clause-widens : goal.returns-in_err-behind_end-clause-widens
-returns-in_err-behind_end-clause-widens c = (grows_on (grows_on (grows_on c.in_ok-behind_aspects.ensures.grows c.in_ok-behind_items.ensures.grows) c.in_ok-behind_items_2.ensures.grows) c.in_ok-add_declaration.ensures.grows).widens
+returns-in_err-behind_end-clause-widens c = (grows_on (grows_on (grows_on c.in_ok-behind_aspects.ensures.grows c.in_ok-next.ensures.grows) c.in_ok-behind_items.ensures.grows) c.in_ok-add_declaration.ensures.grows).widens
 
 pub returns-in-Some-clause-reads : goal.returns-in-Some-clause-reads
-returns-in-Some-clause-reads c = λ os ds ho. let f1 = c.in_ok-behind_aspects.ensures.reads _ ho in let f2 = c.in_ok-behind_items.ensures.reads _ f1.holds in let f3 = c.in_ok-behind_items_2.ensures.reads _ (c.new-hidden.ensures _) in unit_last (lexemes c.args.tokens.now) c.args.cursor c.in_ok-behind_end.behind_end _ _ _ (grows_on (grows_on (grows_on c.in_ok-behind_aspects.ensures.grows c.in_ok-behind_items.ensures.grows) c.in_ok-behind_items_2.ensures.grows) c.in_ok-add_declaration.ensures.grows).units (seen (done (seen (done (seen (done (seen (start (parts.SpecUnit os ds) _) c.in_ok-name.ensures.takes refl) f1.reads (λ b. refl)) c.in_ok-behind_keyword.ensures.takes refl) f2.reads (λ b. refl)) (present (word words.Private) (lexeme c.args.tokens.now.source) (lexemes c.args.tokens.now) c.in_ok-behind_items.behind_items c.in_ok-private.ensures c.in-Some.is).takes refl) f3.reads (λ b. refl)) c.in_ok-behind_end.ensures.takes refl) (omega (arith, c.in_ok-name.ensures.place, c.in_ok-behind_aspects.ensures.goes.forward, c.in_ok-behind_keyword.ensures.place, c.in_ok-behind_items.ensures.goes.forward, (present (word words.Private) (lexeme c.args.tokens.now.source) (lexemes c.args.tokens.now) c.in_ok-behind_items.behind_items c.in_ok-private.ensures c.in-Some.is).place, c.in_ok-behind_items_2.ensures.goes.forward, c.in_ok-behind_end.ensures.place)) refl (c.end_of_unit.ensures.reads _ _ (c.in_ok-add_declaration.ensures.builds _ _ f3.holds (holds_on c.in_ok-behind_items_2.ensures.grows f2.holds)))
+returns-in-Some-clause-reads c = λ os ds ho. let f1 = c.in_ok-behind_aspects.ensures.reads _ ho in let f2 = c.in_ok-next.ensures.reads _ f1.holds in let f3 = c.in_ok-behind_items.ensures.reads _ (c.new-hidden.ensures _ f2.holds.ordered) in unit_last (lexemes c.args.tokens.now) c.args.cursor c.in_ok-behind_end.behind_end _ _ _ (grows_on (grows_on (grows_on c.in_ok-behind_aspects.ensures.grows c.in_ok-next.ensures.grows) c.in_ok-behind_items.ensures.grows) c.in_ok-add_declaration.ensures.grows).units (seen (done (seen (done (seen (done (seen (start (parts.SpecUnit os ds) _) c.in_ok-name.ensures.takes refl) f1.reads (λ b. refl)) c.in_ok-behind_keyword.ensures.takes refl) f2.reads (λ b. refl)) (present (word words.Private) (lexeme c.args.tokens.now.source) (lexemes c.args.tokens.now) c.in_ok-next.next c.in_ok-private.ensures c.in-Some.is).takes refl) f3.reads (λ b. refl)) c.in_ok-behind_end.ensures.takes refl) (omega (arith, c.in_ok-name.ensures.place, c.in_ok-behind_aspects.ensures.goes.forward, c.in_ok-behind_keyword.ensures.place, c.in_ok-next.ensures.goes.forward, (present (word words.Private) (lexeme c.args.tokens.now.source) (lexemes c.args.tokens.now) c.in_ok-next.next c.in_ok-private.ensures c.in-Some.is).place, c.in_ok-behind_items.ensures.goes.forward, c.in_ok-behind_end.ensures.place)) refl (c.end_of_unit.ensures.reads _ _ (c.in_ok-add_declaration.ensures.builds _ _ f3.holds (holds_on f3.holds.ordered c.in_ok-behind_items.ensures.grows f2.holds)))
 
 pub returns-in-Some-clause-goes : goal.returns-in-Some-clause-goes
-returns-in-Some-clause-goes c = goes_on (lexemes c.args.tokens.now) c.args.cursor c.in_ok-behind_end.behind_end _ (omega (arith, c.in_ok-name.ensures.place, c.in_ok-behind_aspects.ensures.goes.forward, c.in_ok-behind_keyword.ensures.place, c.in_ok-behind_items.ensures.goes.forward, (present (word words.Private) (lexeme c.args.tokens.now.source) (lexemes c.args.tokens.now) c.in_ok-behind_items.behind_items c.in_ok-private.ensures c.in-Some.is).place, c.in_ok-behind_items_2.ensures.goes.forward, c.in_ok-behind_end.ensures.place)) c.end_of_unit.ensures.goes
+returns-in-Some-clause-goes c = goes_on (lexemes c.args.tokens.now) c.args.cursor c.in_ok-behind_end.behind_end _ (omega (arith, c.in_ok-name.ensures.place, c.in_ok-behind_aspects.ensures.goes.forward, c.in_ok-behind_keyword.ensures.place, c.in_ok-next.ensures.goes.forward, (present (word words.Private) (lexeme c.args.tokens.now.source) (lexemes c.args.tokens.now) c.in_ok-next.next c.in_ok-private.ensures c.in-Some.is).place, c.in_ok-behind_items.ensures.goes.forward, c.in_ok-behind_end.ensures.place)) c.end_of_unit.ensures.goes
 
 pub returns-in-Some-clause-widens : goal.returns-in-Some-clause-widens
-returns-in-Some-clause-widens c = (widens_on (grows_on (grows_on (grows_on c.in_ok-behind_aspects.ensures.grows c.in_ok-behind_items.ensures.grows) c.in_ok-behind_items_2.ensures.grows) c.in_ok-add_declaration.ensures.grows).widens c.end_of_unit.ensures.widens)
+returns-in-Some-clause-widens c = (widens_on (grows_on (grows_on (grows_on c.in_ok-behind_aspects.ensures.grows c.in_ok-next.ensures.grows) c.in_ok-behind_items.ensures.grows) c.in_ok-add_declaration.ensures.grows).widens c.end_of_unit.ensures.widens)
 
 pub returns-in-Some-clause-one : goal.returns-in-Some-clause-one
-returns-in-Some-clause-one c = one_on _ _ (grows_on (grows_on (grows_on c.in_ok-behind_aspects.ensures.grows c.in_ok-behind_items.ensures.grows) c.in_ok-behind_items_2.ensures.grows) c.in_ok-add_declaration.ensures.grows).units c.end_of_unit.ensures.one
+returns-in-Some-clause-one c = one_on _ _ (grows_on (grows_on (grows_on c.in_ok-behind_aspects.ensures.grows c.in_ok-next.ensures.grows) c.in_ok-behind_items.ensures.grows) c.in_ok-add_declaration.ensures.grows).units c.end_of_unit.ensures.one
 
 pub returns-in_err-behind_end_2-clause-reads : goal.returns-in_err-behind_end_2-clause-reads
-returns-in_err-behind_end_2-clause-reads c = λ os ds ho. let f1 = c.in_ok-behind_aspects.ensures.reads _ ho in let f2 = c.in_ok-behind_items.ensures.reads _ f1.holds in fault_unit (parts.SpecUnit os ds) (lexemes c.args.tokens.now) c.args.cursor _ _ _ _ _ (misses_here (lexemes c.args.tokens.now) c.args.cursor c.in_ok-behind_items.behind_items (word words.End) _ c.in_ok-behind_items.ensures.goes.ends (unseen (done (seen (done (seen (start (parts.SpecUnit os ds) _) c.in_ok-name.ensures.takes refl) f1.reads (λ b. refl)) c.in_ok-behind_keyword.ensures.takes refl) f2.reads (λ b. refl)) (absent (word words.Private) (lexeme c.args.tokens.now.source) (lexemes c.args.tokens.now) c.in_ok-behind_items.behind_items c.in_ok-private.ensures c.in_default.is)) refl (λ t. refl) c.in_err-behind_end_2.ensures) c.from_residual-in_err-behind_end_2.ensures.1
+returns-in_err-behind_end_2-clause-reads c = λ os ds ho. let f1 = c.in_ok-behind_aspects.ensures.reads _ ho in let f2 = c.in_ok-next.ensures.reads _ f1.holds in fault_unit (parts.SpecUnit os ds) (lexemes c.args.tokens.now) c.args.cursor _ _ _ _ _ (misses_here (lexemes c.args.tokens.now) c.args.cursor c.in_ok-next.next (word words.End) _ c.in_ok-next.ensures.goes.ends (unseen (done (seen (done (seen (start (parts.SpecUnit os ds) _) c.in_ok-name.ensures.takes refl) f1.reads (λ b. refl)) c.in_ok-behind_keyword.ensures.takes refl) f2.reads (λ b. refl)) (absent (word words.Private) (lexeme c.args.tokens.now.source) (lexemes c.args.tokens.now) c.in_ok-next.next c.in_ok-private.ensures c.in_default.is)) refl (λ t. refl) c.in_err-behind_end_2.ensures) c.from_residual-in_err-behind_end_2.ensures.1
 
 pub returns-in_err-behind_end_2-clause-widens : goal.returns-in_err-behind_end_2-clause-widens
-returns-in_err-behind_end_2-clause-widens c = (grows_on c.in_ok-behind_aspects.ensures.grows c.in_ok-behind_items.ensures.grows).widens
+returns-in_err-behind_end_2-clause-widens c = (grows_on c.in_ok-behind_aspects.ensures.grows c.in_ok-next.ensures.grows).widens
 
 pub returns-clause-reads : goal.returns-clause-reads
-returns-clause-reads c = λ os ds ho. let f1 = c.in_ok-behind_aspects.ensures.reads _ ho in let f2 = c.in_ok-behind_items.ensures.reads _ f1.holds in unit_last (lexemes c.args.tokens.now) c.args.cursor c.in_ok-behind_end_2.behind_end_2 _ _ _ (grows_on c.in_ok-behind_aspects.ensures.grows c.in_ok-behind_items.ensures.grows).units (seen (unseen (done (seen (done (seen (start (parts.SpecUnit os ds) _) c.in_ok-name.ensures.takes refl) f1.reads (λ b. refl)) c.in_ok-behind_keyword.ensures.takes refl) f2.reads (λ b. refl)) (absent (word words.Private) (lexeme c.args.tokens.now.source) (lexemes c.args.tokens.now) c.in_ok-behind_items.behind_items c.in_ok-private.ensures c.in_default.is)) c.in_ok-behind_end_2.ensures.takes refl) (omega (arith, c.in_ok-name.ensures.place, c.in_ok-behind_aspects.ensures.goes.forward, c.in_ok-behind_keyword.ensures.place, c.in_ok-behind_items.ensures.goes.forward, c.in_ok-behind_end_2.ensures.place)) refl (c.end_of_unit-2.ensures.reads _ _ f2.holds)
+returns-clause-reads c = λ os ds ho. let f1 = c.in_ok-behind_aspects.ensures.reads _ ho in let f2 = c.in_ok-next.ensures.reads _ f1.holds in unit_last (lexemes c.args.tokens.now) c.args.cursor c.in_ok-behind_end_2.behind_end_2 _ _ _ (grows_on c.in_ok-behind_aspects.ensures.grows c.in_ok-next.ensures.grows).units (seen (unseen (done (seen (done (seen (start (parts.SpecUnit os ds) _) c.in_ok-name.ensures.takes refl) f1.reads (λ b. refl)) c.in_ok-behind_keyword.ensures.takes refl) f2.reads (λ b. refl)) (absent (word words.Private) (lexeme c.args.tokens.now.source) (lexemes c.args.tokens.now) c.in_ok-next.next c.in_ok-private.ensures c.in_default.is)) c.in_ok-behind_end_2.ensures.takes refl) (omega (arith, c.in_ok-name.ensures.place, c.in_ok-behind_aspects.ensures.goes.forward, c.in_ok-behind_keyword.ensures.place, c.in_ok-next.ensures.goes.forward, c.in_ok-behind_end_2.ensures.place)) refl (c.end_of_unit-2.ensures.reads _ _ f2.holds)
 
 pub returns-clause-goes : goal.returns-clause-goes
-returns-clause-goes c = goes_on (lexemes c.args.tokens.now) c.args.cursor c.in_ok-behind_end_2.behind_end_2 _ (omega (arith, c.in_ok-name.ensures.place, c.in_ok-behind_aspects.ensures.goes.forward, c.in_ok-behind_keyword.ensures.place, c.in_ok-behind_items.ensures.goes.forward, c.in_ok-behind_end_2.ensures.place)) c.end_of_unit-2.ensures.goes
+returns-clause-goes c = goes_on (lexemes c.args.tokens.now) c.args.cursor c.in_ok-behind_end_2.behind_end_2 _ (omega (arith, c.in_ok-name.ensures.place, c.in_ok-behind_aspects.ensures.goes.forward, c.in_ok-behind_keyword.ensures.place, c.in_ok-next.ensures.goes.forward, c.in_ok-behind_end_2.ensures.place)) c.end_of_unit-2.ensures.goes
 
 pub returns-clause-widens : goal.returns-clause-widens
-returns-clause-widens c = (widens_on (grows_on c.in_ok-behind_aspects.ensures.grows c.in_ok-behind_items.ensures.grows).widens c.end_of_unit-2.ensures.widens)
+returns-clause-widens c = (widens_on (grows_on c.in_ok-behind_aspects.ensures.grows c.in_ok-next.ensures.grows).widens c.end_of_unit-2.ensures.widens)
 
 pub returns-clause-one : goal.returns-clause-one
-returns-clause-one c = one_on _ _ (grows_on c.in_ok-behind_aspects.ensures.grows c.in_ok-behind_items.ensures.grows).units c.end_of_unit-2.ensures.one
+returns-clause-one c = one_on _ _ (grows_on c.in_ok-behind_aspects.ensures.grows c.in_ok-next.ensures.grows).units c.end_of_unit-2.ensures.one
