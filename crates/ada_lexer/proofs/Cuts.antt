@@ -30,14 +30,14 @@ after-after ts us (Err f) = refl
 after-after ts us (Ok vs) = ap Ok (sym (append_assoc ts us vs))
 
 -- what stands from a place on begins with a piece
-here_ok : (file : FileNo) (source : List ℕ) (at : ℕ) (ticked : Bool) (xs : List ℕ) (p : Piece) → 0 < length xs → piece_at ticked xs ≡ Ok p → 0 < p.len →
+pub here_ok : (file : FileNo) (source : List ℕ) (at : ℕ) (ticked : Bool) (xs : List ℕ) (p : Piece) → 0 < length xs → piece_at ticked xs ≡ Ok p → 0 < p.len →
     cut_from file source at 0 ticked xs ≡ after_tokens (token_of (span file source at (at + p.len)) at p.len p.kind) (cut_from file source (at + p.len) 0 (ticks ticked p.kind) (drop p.len xs))
 here_ok file source at ticked [] p some h k = absurd (omega arith)
 here_ok file source at ticked (x ∷ xs) p some h k =
     ap (λ r. elim r [ Ok p ↦ after_tokens (token_of (span file source at (at + p.len)) at p.len p.kind) (cut_from file source (at + 1) (p.len - 1) (ticks ticked p.kind) xs) | Err f ↦ Err (record { code = f.code; place = place source (at + f.at) }) ]) h
     ∙ ap (after_tokens (token_of (span file source at (at + p.len)) at p.len p.kind)) (past_first file source at p.len (ticks ticked p.kind) x xs k)
 
-here_err : (file : FileNo) (source : List ℕ) (at : ℕ) (ticked : Bool) (xs : List ℕ) (f : Fault) → 0 < length xs → piece_at ticked xs ≡ Err f →
+pub here_err : (file : FileNo) (source : List ℕ) (at : ℕ) (ticked : Bool) (xs : List ℕ) (f : Fault) → 0 < length xs → piece_at ticked xs ≡ Err f →
     cut_from file source at 0 ticked xs ≡ Err (record { code = f.code; place = place source (at + f.at) })
 here_err file source at ticked [] f some h = absurd (omega arith)
 here_err file source at ticked (x ∷ xs) f some h =

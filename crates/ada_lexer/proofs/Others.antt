@@ -33,7 +33,7 @@ no_comment : (b c : ℕ) (s : List ℕ) → Apart b c → comment (b ∷ c ∷ s
 no_comment b c s a = ap (λ t. t && every is_inner s) a.two
 
 -- what judging makes of marks and characters
-judged-other : (n : ℕ) (b : ℕ) (s rest : List ℕ) → Other b → comment (b ∷ s) ≡ false →
+pub judged-other : (n : ℕ) (b : ℕ) (s rest : List ℕ) → Other b → comment (b ∷ s) ≡ false →
     judged n (b ∷ s) rest ≡ (if character (b ∷ s) then piece n (Some kinds.Character) else mark_piece n (mark_of (b ∷ s)))
 unfolding judged
 judged-other n b s rest o h = rw (space-not b s o.white, h, word-not b s o.letter, number-not b s o.digit, text-not b s o.quote) refl

@@ -15,6 +15,7 @@ use Rattle.ada_tree.specs.declared.token.TokenKind.{TokenKind}
 use Rattle.ada_tree.specs.declared.token.TokenKind.TheVariants as kinds
 use Rattle.spark_messages.specs.declared.messages.Code.{Code}
 use Rattle.spark_messages.specs.declared.messages.Code.TheVariants.{L01, L02, L03, L04, X01}
+use Rattle.ada_lexer.specs.declared.lexing.TheConstants.{LIMIT}
 use Rattle.ada_lexer.specs.declared.piece.Fault.{Fault}
 use Rattle.ada_lexer.specs.declared.piece.Piece.{Piece}
 use Rattle.ada_lexer.specs.declared.refusal.Refusal.{Refusal}
@@ -35,6 +36,13 @@ scaled base digits exponent = value_from base 0 digits * base ^ value_from 10 0 
 
 abbrev pub is_hash : ℕ → Bool
 is_hash b = nat_eq b 35
+
+abbrev pub is_quote : ℕ → Bool
+is_quote b = nat_eq b 34
+
+-- a byte outside ASCII
+abbrev pub is_high : ℕ → Bool
+is_high b = nat_lt 127 b
 
 -- the value of a number with a base, by what stands before its first # and after it
 abbrev pub based_value : List ℕ → List ℕ → ℕ
@@ -62,7 +70,7 @@ spoils front (b ∷ bs) =
 -- the place of the first byte above 127
 abbrev pub first_high : List ℕ → Option ℕ
 first_high [] = None
-first_high (b ∷ bs) = if nat_lt 127 b then Some 0 else (elim (first_high bs) [ Some n ↦ Some (n + 1) | None ↦ None ])
+first_high (b ∷ bs) = if is_high b then Some 0 else (elim (first_high bs) [ Some n ↦ Some (n + 1) | None ↦ None ])
 
 -- a refusal so many bytes on
 abbrev pub fault : {A : Type 0} → Code → ℕ → Result A Fault
@@ -92,7 +100,7 @@ text_end n None = piece n (Some kinds.Text)
 -- a text, unless a quote stands behind it: then its line does not end it
 abbrev pub text_piece : ℕ → List ℕ → List ℕ → Result Piece Fault
 text_piece n front rest =
-    if starts (λ b. nat_eq b 34) rest then fault L04 0 else text_end n (first_high front)
+    if starts is_quote rest then fault L04 0 else text_end n (first_high front)
 
 -- a mark
 abbrev pub mark_piece : ℕ → Option Mark → Result Piece Fault
@@ -109,7 +117,7 @@ judged n front rest =
 
 -- what stands at the front, by the length of the longest piece there
 abbrev pub cut_here : List ℕ → Option ℕ → Result Piece Fault
-cut_here bytes None = if starts (λ b. nat_lt 127 b) bytes then fault L01 0 else fault L04 0
+cut_here bytes None = if starts is_high bytes then fault L01 0 else fault L04 0
 cut_here bytes (Some n) = judged n (take n bytes) (drop n bytes)
 
 -- the piece at the front; `ticked`: a tick is a mark here
@@ -179,5 +187,5 @@ cut_from file source at zero ticked (b ∷ bs) = elim (piece_at ticked (b ∷ bs
 -- the tokens of a source, or its first refusal
 unfoldable pub lexed : FileNo → List ℕ → Result (List Token) Refusal
 lexed file source =
-    if nat_lt 4194304 (length source) then Err (record { code = X01; place = record { line = 1; col = 1 } })
+    if nat_lt LIMIT (length source) then Err (record { code = X01; place = record { line = 1; col = 1 } })
     else cut_from file source 0 0 false source

@@ -1,4 +1,4 @@
--- What the laws say of fronts, numbers and tokens.
+-- What the laws say of fronts, numbers and the order of tokens.
 use Rattle.ada_tree.specs.declared.token.Token.{Token}
 use Rattle.spark_base.specs.declared.numbers.FileNo.{FileNo}
 use Rattle.std.specs.Prelude.{[], ◌≡◌, ℕ, ◌<◌, ◌≤◌, List, ◌++◌, ◌∷◌, Bool, true, false, length, take}

@@ -11,8 +11,8 @@ use spark_base::{Bytes, FileNo, Items, NoMemory, Pos, Span};
 use spark_messages::{Code, PhaseFault};
 use std::alloc::Global;
 
-/// The most bytes that a source may have.
-const LIMIT: usize = 4_194_304;
+/// The most bytes that a file may have.
+pub const LIMIT: u32 = 4_194_304;
 
 /// The place of the first byte.
 const START: Pos = Pos { line: 1, col: 1 };
@@ -84,7 +84,7 @@ fn add(tokens: &mut Items<Token>, piece: &Piece, span: Span, at: usize) -> Resul
 
 /// The tokens of a source, which is kept with them.
 ///
-/// Refused are a source of more than 4,194,304 bytes (X01, at its beginning), and else the first
+/// Refused are a source of more than `LIMIT` bytes (X01, at its beginning), and else the first
 /// piece that is malformed (L02 to L04) or has a byte outside ASCII (L01). The message is of the
 /// kind `Refused`, with the code and its text, at the refusal's place in this file. `NoMemory` is
 /// for want of memory alone.
@@ -96,7 +96,7 @@ pub fn lex(alloc: Global, file: FileNo, source: Bytes) -> Result<Tokens, PhaseFa
     ensures end { IfOk result (λ t. t.end ≡ cut.place source (length source)) }
     ensures err { IfErr result (λ f. Fails file f (cut.lexed file source)) }
 {
-    if source.len() > LIMIT {
+    if source.len() > LIMIT as usize {
         let refusal = Refusal {
             code: Code::X01,
             place: START,
@@ -114,7 +114,7 @@ pub fn lex(alloc: Global, file: FileNo, source: Bytes) -> Result<Tokens, PhaseFa
 
 /// The tokens of these bytes, and the place behind the last byte.
 fn tokens_of(alloc: Global, file: FileNo, bytes: &[u8]) -> Result<(Items<Token>, Pos), PhaseFault>
-    requires { length bytes.now ≤ 4194304 }
+    requires { length bytes.now ≤ LIMIT }
     ensures list { IfOk result (λ r. cut.cut_from file bytes.now 0 0 false bytes.now ≡ Ok r.0) }
     ensures end { IfOk result (λ r. r.1 ≡ cut.place bytes.now (length bytes.now)) }
     ensures err { IfErr result (λ f. Fails file f (cut.cut_from file bytes.now 0 0 false bytes.now)) }

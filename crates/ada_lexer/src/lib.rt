@@ -1,4 +1,4 @@
-//! The tokens of an Ada source, or its first refusal.
+//! The tokens of a source of the subset, or its first refusal.
 //!
 //! A source is cut into pieces: white space, comments and tokens, each the longest that can stand
 //! at its place.
@@ -16,5 +16,8 @@ mod scan;
 #[cfg(test)]
 mod tests;
 
-pub use laws::{longest_fronts, number_parts, number_values, tokens_in_order};
-pub use lexing::lex;
+pub use laws::{
+    longest_fronts, number_parts, number_values, pieces_joined, refusals_behind_pieces,
+    tokens_in_order,
+};
+pub use lexing::{LIMIT, lex};

@@ -1,8 +1,8 @@
 use spark_base::{ExprNo, Items, Name, Pos, Span};
 
-/// An expression, or what stands in one place with expressions: a range, a choice, an argument, an end name. The item of an
-/// aspect is the node of its name, and so is a mark, which is a name of words and points alone. Its children are
-/// expressions, in the order of the source.
+/// An expression, or what stands in one place with expressions: a range, a choice, an argument, the name of what ends or
+/// of the loop that is left. The item of an aspect is the node of its name, and so is a mark, which is a name of words
+/// and points alone. Its children are expressions, in the order of the source.
 #[derive(Debug, Drop)]
 pub struct ExprNode {
     /// Where the name stands, if the node has one: of `P.N` and `P'N` the `N` alone, since the prefix is a node of its own.
@@ -145,6 +145,6 @@ pub enum ExprKind {
     RangeChoice,
     /// The choice `others`. No children.
     OthersChoice,
-    /// The name behind an `end`. No children.
+    /// The name behind an `end`, or that of the loop behind an `exit`. No children.
     EndName,
 }

@@ -3,10 +3,10 @@ use spark_base::{AspectNo, DeclNo, ExprNo, Items, Name, Span, StmtNo};
 /// A statement or a part of one. Each of the lists has the children of its type, in the order of the source.
 #[derive(Debug, Drop)]
 pub struct StmtNode {
-    /// Where the name stands, or else the first token.
+    /// Its first token; of a loop or a block the first behind the label.
     pub span: Span,
     pub kind: StmtKind,
-    /// The loop that an exit names.
+    /// None: a label is a declaration, and an end name or the loop that an exit names is an expression.
     pub name: Option<Name>,
     pub exprs: Items<ExprNo>,
     pub stmts: Items<StmtNo>,
@@ -64,7 +64,7 @@ pub enum StmtKind {
         has_declare: bool,
         has_end_name: bool,
     },
-    /// `exit L when E;` Expressions: the condition.
+    /// `exit L when E;` Expressions: the name of the loop, and the condition.
     Exit {
         has_loop_name: bool,
         has_condition: bool,

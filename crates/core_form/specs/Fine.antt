@@ -3,6 +3,7 @@
 use Rattle.std.specs.Prelude.{◌≡◌, ℕ, ◌+◌, ◌^◌, ◌<◌, ◌≤◌, List, All, Option, Some, None, IfSome, slice_get, length}
 use Rattle.spark_base.specs.declared.numbers.ExprNo.{ExprNo}
 use Rattle.spark_base.specs.declared.numbers.StmtNo.{StmtNo}
+use Rattle.core_form.specs.declared.build.Nodes.{Nodes}
 use Rattle.core_form.specs.declared.code.CoreExpr.{CoreExpr}
 use Rattle.core_form.specs.declared.code.CoreStmt.{CoreStmt}
 use Rattle.core_form.specs.declared.code.Place.{Place}
@@ -17,6 +18,7 @@ use Rattle.core_form.specs.declared.program.Program.{Program}
 use Rattle.core_form.specs.declared.program.Sharing.{Sharing}
 use Rattle.core_form.specs.declared.program.StateDef.{StateDef}
 use Rattle.core_form.specs.declared.program.Var.{Var}
+use Rattle.core_form.specs.Exits.{ExitsIn}
 use Rattle.core_form.specs.Code.{Expr, Exprs, Spot, Code, Constant, Load, Operation, Choice, Listed, Checked, Nothing, And, At, Skip, Then, Assign, Clear, Branch, Repeat, Exit, Called, Guard, Delay, ReadClock, Stop, code_of}
 
 -- Nodes
@@ -45,9 +47,9 @@ abbrev pub IsFineStmt : ℕ → ℕ → ℕ → CoreStmt → Type 0
 IsFineStmt leaves exprs s (CoreStmt.Move to e at) = PlaceBelow leaves exprs to × (e.0 < exprs)
 IsFineStmt leaves exprs s (CoreStmt.Fresh leaf) = leaf.0 < leaves
 IsFineStmt leaves exprs s (CoreStmt.If test a b) = (test.0 < exprs) × (a.0 < s) × (b.0 < s)
-IsFineStmt leaves exprs s (CoreStmt.Loop body) = ⊥
-IsFineStmt leaves exprs s (CoreStmt.Leave n) = ⊥
-IsFineStmt leaves exprs s CoreStmt.Back = ⊥
+IsFineStmt leaves exprs s (CoreStmt.Loop body) = body.0 < s
+IsFineStmt leaves exprs s (CoreStmt.Leave n) = Unit {0}
+IsFineStmt leaves exprs s CoreStmt.Back = Unit {0}
 IsFineStmt leaves exprs s (CoreStmt.Call callee actuals at) = ⊥
 IsFineStmt leaves exprs s (CoreStmt.Guarded object barrier call) = ⊥
 IsFineStmt leaves exprs s (CoreStmt.DelayUntil e) = ⊥
@@ -61,12 +63,18 @@ AreFineExprs leaves exprs = (e : ℕ) (node : CoreExpr) → slice_get exprs e �
 abbrev pub AreFineStmts : ℕ → ℕ → List CoreStmt → Type 0
 AreFineStmts leaves exprs stmts = (s : ℕ) (node : CoreStmt) → slice_get stmts s ≡ Some node → IsFineStmt leaves exprs s node
 
--- what is asked of the nodes: by it alone, the code of a number can be followed
-pub record HasFineNodes (p : Program) : Type 0 where
+-- what is asked of nodes: by it alone, the code of a number can be followed
+pub record AreFineNodes (nodes : Nodes) : Type 0 where
   -- each number has its place, and a row one more for "not assigned"
-  pub room : (length p.leaves + 1 < 2 ^ 32) × (length p.exprs < 2 ^ 32) × (length p.stmts < 2 ^ 32)
-  pub exprs : AreFineExprs (length p.leaves) p.exprs
-  pub stmts : AreFineStmts (length p.leaves) (length p.exprs) p.stmts
+  pub room : (nodes.leaves + 1 < 2 ^ 32) × (length nodes.exprs < 2 ^ 32) × (length nodes.stmts < 2 ^ 32)
+  pub exprs : AreFineExprs nodes.leaves nodes.exprs
+  pub stmts : AreFineStmts nodes.leaves (length nodes.exprs) nodes.stmts
+
+abbrev pub nodes_of : Program → Nodes
+nodes_of p = record { leaves = length p.leaves; exprs = p.exprs; stmts = p.stmts }
+
+abbrev pub HasFineNodes : Program → Type 0
+HasFineNodes p = AreFineNodes (nodes_of p)
 
 -- Tables
 
@@ -80,6 +88,7 @@ IsFineHome p (Home.Local b) = b.0 < length p.bodies
 IsFineHome p (Home.Formal b) = b.0 < length p.bodies
 IsFineHome p (Home.Outcome b) = b.0 < length p.bodies
 IsFineHome p (Home.Spare b) = b.0 < length p.bodies
+IsFineHome p Home.Clock = Unit {0}
 
 abbrev pub IsFineSharing : Program → Sharing → Type 0
 IsFineSharing p Sharing.Plain = Unit {0}
@@ -128,13 +137,14 @@ pub record IsFineConstituent (p : Program) (x : Constituent) : Type 0 where
 
 -- Names
 
--- a variable of a package, or of this body
+-- a variable of a package, of this body, or the clock
 abbrev pub IsHomeOf : ℕ → Home → Type 0
 IsHomeOf body (Home.Package k) = Unit {0}
 IsHomeOf body (Home.Local b) = b.0 ≡ body
 IsHomeOf body (Home.Formal b) = b.0 ≡ body
 IsHomeOf body (Home.Outcome b) = b.0 ≡ body
 IsHomeOf body (Home.Spare b) = b.0 ≡ body
+IsHomeOf body Home.Clock = Unit {0}
 
 -- the home of a leaf
 abbrev pub home_of : Program → ℕ → Option Home
@@ -170,8 +180,8 @@ CodeIn P (Then a b) = CodeIn P a × CodeIn P b
 CodeIn P (Assign to e at) = SpotIn P to × NamesIn P e
 CodeIn P (Clear leaf) = P leaf
 CodeIn P (Branch e a b) = NamesIn P e × CodeIn P a × CodeIn P b
-CodeIn P (Repeat a) = ⊥
-CodeIn P (Exit o) = ⊥
+CodeIn P (Repeat a) = CodeIn P a
+CodeIn P (Exit o) = Unit {0}
 CodeIn P (Called b actuals at) = ⊥
 CodeIn P (Guard o barrier call) = ⊥
 CodeIn P (Delay e) = ⊥
@@ -193,3 +203,4 @@ pub record IsWellFormed (p : Program) : Type 0 where
   pub part_of : All (IsFinePartOf p) p.part_of
   pub constituents : All (IsFineConstituent p) p.constituents
   pub names : (b : ℕ) (body : Body) → slice_get p.bodies b ≡ Some body → CodeIn (IsSeenIn p b) (code_of p.exprs p.stmts body.code)
+  pub exits : (b : ℕ) (body : Body) → slice_get p.bodies b ≡ Some body → ExitsIn 0 (code_of p.exprs p.stmts body.code)

@@ -1,12 +1,16 @@
 -- What lowering promises beside a well-formed program. Without it, laws on runs are false.
-use Rattle.std.specs.Prelude.{◌≡◌, ℕ, ◌+◌, ◌<◌, ◌≤◌, ◌↔◌, Bool, [], Option, Some, None, slice_get, IsTrue}
+use Rattle.std.specs.Prelude.{◌≡◌, ℕ, ◌+◌, ◌<◌, ◌≤◌, ◌↔◌, ◌⊎◌, Bool, true, false, [], All, Option, Some, None, IsSomeAnd, slice_get, IsTrue}
+use Rattle.spark_base.specs.declared.numbers.PackageNo.{PackageNo}
 use Rattle.core_form.specs.declared.program.Body.{Body}
 use Rattle.core_form.specs.declared.program.BodyKind.{BodyKind}
 use Rattle.core_form.specs.declared.program.Home.{Home}
 use Rattle.core_form.specs.declared.program.Leaf.{Leaf}
+use Rattle.core_form.specs.declared.program.ParamMode.{ParamMode}
+use Rattle.core_form.specs.declared.program.Part.{Part}
 use Rattle.core_form.specs.declared.program.Program.{Program}
 use Rattle.core_form.specs.declared.program.Var.{Var}
-use Rattle.core_form.specs.Code.{Expr, Exprs, Spot, Code, Constant, Load, Operation, Choice, Listed, Checked, Nothing, And, At, Skip, Then, Assign, Clear, Branch, Repeat, Exit, Called, Guard, Delay, ReadClock, Stop, code_of}
+use Rattle.core_form.specs.Code.{Expr, Exprs, Spot, Constant, Load, Operation, Choice, Listed, Checked, Nothing, And, At}
+use Rattle.core_form.specs.Code.{Code, Skip, Then, Assign, Clear, Branch, Repeat, Exit, Called, Guard, Delay, ReadClock, Stop, code_of}
 use Rattle.core_form.specs.Fine.{home_of}
 
 -- an elaboration, a task body or a main
@@ -18,14 +22,42 @@ IsRoot BodyKind.Procedure = ⊥
 IsRoot BodyKind.Function = ⊥
 IsRoot BodyKind.Entry = ⊥
 
--- a leaf that a body of this kind may make fresh: a library leaf in an elaboration alone, and no formal of mode in or in out
-abbrev pub MayClear : BodyKind → Option Home → Type 0
-MayClear kind None = ⊥
-MayClear kind (Some (Home.Package k)) = kind ≡ BodyKind.Elaboration
-MayClear kind (Some (Home.Local b)) = Unit {0}
-MayClear kind (Some (Home.Formal b)) = ⊥
-MayClear kind (Some (Home.Outcome b)) = Unit {0}
-MayClear kind (Some (Home.Spare b)) = Unit {0}
+-- What code makes fresh
+
+-- wherever it stands: leaves of the body's own, and no formal, since a call begins with its out formals unassigned
+abbrev pub MayClear : Option Home → Type 0
+MayClear None = ⊥
+MayClear (Some (Home.Package k)) = ⊥
+MayClear (Some (Home.Local b)) = Unit {0}
+MayClear (Some (Home.Formal b)) = ⊥
+MayClear (Some (Home.Outcome b)) = Unit {0}
+MayClear (Some (Home.Spare b)) = Unit {0}
+MayClear (Some Home.Clock) = ⊥
+
+-- the variables of a package are declared by the elaboration of its spec, but for the hidden ones, which that of its body declares
+abbrev pub IsDeclaredIn : Part → Bool → Type 0
+IsDeclaredIn Part.Visible in_spec = in_spec ≡ true
+IsDeclaredIn Part.Private in_spec = in_spec ≡ true
+IsDeclaredIn Part.Hidden in_spec = in_spec ≡ false
+IsDeclaredIn Part.Inner in_spec = ⊥
+
+pub record Declares (body : Body) (v : Var) : Type 0 where
+  pub kind : body.kind ≡ BodyKind.Elaboration
+  pub home : (k : PackageNo) × ((body.«package» ≡ Some k) × (v.home ≡ Home.Package k))
+  pub part : IsDeclaredIn v.part body.in_spec
+
+-- in its own list, an elaboration makes also the library leaves fresh that it declares
+abbrev pub IsDeclared : Program → Body → ℕ → Type 0
+IsDeclared p body leaf = IsSomeAnd (slice_get p.leaves leaf) (λ l. IsSomeAnd (slice_get p.vars l.var.0) (Declares body))
+
+-- What code writes
+
+abbrev pub leaf_at : Spot → ℕ
+leaf_at (At leaf part whole cells) = leaf
+
+-- no formal of mode in
+abbrev pub MayWrite : Program → Body → ℕ → Type 0
+MayWrite p body leaf = All (λ f. f.mode ≡ ParamMode.In → IsSomeAnd (slice_get p.leaves leaf) (λ l. l.var ≡ f.var) → ⊥) body.formals
 
 -- a place is whole exactly where no part is chosen and it has all cells of its leaf
 abbrev pub IsWholeRight : (ℕ → ℕ) → ℕ → Exprs → Bool → ℕ → Type 0
@@ -47,24 +79,34 @@ abbrev mutual
   pub PlaceRight : (ℕ → ℕ) → Spot → Type 0
   PlaceRight cells (At leaf part whole count) = IsWholeRight cells leaf part whole count × AllPlacesRight cells part
 
--- the code makes fresh what it may, and its places are right
-abbrev pub IsProperCode : (ℕ → ℕ) → (ℕ → Type 0) → Code → Type 0
-IsProperCode cells may Skip = Unit {0}
-IsProperCode cells may (Then a b) = IsProperCode cells may a × IsProperCode cells may b
-IsProperCode cells may (Assign to e at) = PlaceRight cells to × PlacesRight cells e
-IsProperCode cells may (Clear leaf) = may leaf
-IsProperCode cells may (Branch e a b) = PlacesRight cells e × IsProperCode cells may a × IsProperCode cells may b
-IsProperCode cells may (Repeat a) = ⊥
-IsProperCode cells may (Exit o) = ⊥
-IsProperCode cells may (Called b actuals at) = ⊥
-IsProperCode cells may (Guard o barrier call) = ⊥
-IsProperCode cells may (Delay e) = ⊥
-IsProperCode cells may (ReadClock to) = ⊥
-IsProperCode cells may Stop = Unit {0}
-
 -- how many cells a leaf has
 abbrev pub cells_of : Program → ℕ → ℕ
 cells_of p leaf = elim (slice_get p.leaves leaf) [ None ↦ 0 | Some l ↦ l.cells ]
+
+-- the code of a body, within its list: it makes fresh and writes what it may, and its places are right
+abbrev pub IsProperCode : Program → Body → Code → Type 0
+IsProperCode p body Skip = Unit {0}
+IsProperCode p body (Then a b) = IsProperCode p body a × IsProperCode p body b
+IsProperCode p body (Assign to e at) = MayWrite p body (leaf_at to) × PlaceRight (cells_of p) to × PlacesRight (cells_of p) e
+IsProperCode p body (Clear leaf) = MayClear (home_of p leaf)
+IsProperCode p body (Branch e a b) = PlacesRight (cells_of p) e × IsProperCode p body a × IsProperCode p body b
+IsProperCode p body (Repeat a) = IsProperCode p body a
+IsProperCode p body (Exit o) = Unit {0}
+IsProperCode p body (Called b actuals at) = ⊥
+IsProperCode p body (Guard o barrier call) = ⊥
+IsProperCode p body (Delay e) = ⊥
+IsProperCode p body (ReadClock to) = ⊥
+IsProperCode p body Stop = Unit {0}
+
+-- a member of the body's own list
+abbrev pub IsProperMember : Program → Body → Code → Type 0
+IsProperMember p body (Clear leaf) = MayClear (home_of p leaf) ⊎ IsDeclared p body leaf
+IsProperMember p body a = IsProperCode p body a
+
+-- the body's own list
+abbrev pub IsProperList : Program → Body → Code → Type 0
+IsProperList p body (Then a b) = IsProperMember p body a × IsProperList p body b
+IsProperList p body a = IsProperMember p body a
 
 pub record IsProper (p : Program) : Type 0 where
   -- the leaves of a variable are those that name it
@@ -72,5 +114,4 @@ pub record IsProper (p : Program) : Type 0 where
       → (l.var.0 ≡ v) ↔ ((var.«from».0 ≤ leaf) × (leaf < var.«from».0 + var.count))
   -- an elaboration, a task body and a main have no formals
   pub roots : (b : ℕ) (body : Body) → slice_get p.bodies b ≡ Some body → IsRoot body.kind → body.formals ≡ []
-  pub code : (b : ℕ) (body : Body) → slice_get p.bodies b ≡ Some body
-      → IsProperCode (cells_of p) (λ leaf. MayClear body.kind (home_of p leaf)) (code_of p.exprs p.stmts body.code)
+  pub code : (b : ℕ) (body : Body) → slice_get p.bodies b ≡ Some body → IsProperList p body (code_of p.exprs p.stmts body.code)

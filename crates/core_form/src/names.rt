@@ -10,7 +10,7 @@ fn is_home_of(body: usize, home: Home) -> bool
     ensures { IsTrue result ↔ IsHomeOf body home }
 {
     match home {
-        Home::Package(_) => true,
+        Home::Package(_) | Home::Clock => true,
         Home::Local(b) | Home::Formal(b) | Home::Outcome(b) | Home::Spare(b) => {
             b.0 as usize == body
         }
@@ -94,11 +94,9 @@ fn code_in(program: &Program, body: usize, s: StmtNo) -> bool
                 && code_in(program, body, *no)
         }
         CoreStmt::Seq(stmts) => codes_in(program, body, s.0, stmts.as_slice()),
-        CoreStmt::Fail => true,
-        CoreStmt::Loop(_)
-        | CoreStmt::Leave(_)
-        | CoreStmt::Back
-        | CoreStmt::Call { .. }
+        CoreStmt::Loop(of) => code_in(program, body, *of),
+        CoreStmt::Leave(_) | CoreStmt::Back | CoreStmt::Fail => true,
+        CoreStmt::Call { .. }
         | CoreStmt::Guarded { .. }
         | CoreStmt::DelayUntil(_)
         | CoreStmt::Clock(_) => false,

@@ -3,7 +3,8 @@ use Rattle.std.proofs.Common.{◌≡◌, ◌<◌, List, [], ◌∷◌, ◌++◌,
 use Rattle.std.specs.Prelude.{drop}
 use Rattle.std.proofs.lemmas.List.{map-append}
 use Rattle.spark_base.specs.declared.numbers.StmtNo.{StmtNo}
-use Rattle.core_form.specs.Added.{AreFineNodes, KeepsTrees}
+use Rattle.core_form.specs.Added.{KeepsTrees}
+use Rattle.core_form.specs.Fine.{AreFineNodes}
 use Rattle.core_form.specs.Code.{Expr, Code, Skip, Then, code_of, expr_of}
 use Rattle.core_form.specs.declared.build.Nodes.{Nodes}
 use Rattle.first_lower.specs.Known.{Each}

@@ -1,23 +1,22 @@
 -- An assembled program is proper.
 use Rattle.std.proofs.Common.{◌≡◌, ◌↔◌, ℕ, ◌+◌, ◌<◌, ◌≤◌, List, [], Some, All, length, refl, ap, sym, ◌∙◌, arith}
-use Rattle.std.specs.Prelude.{slice_get}
+use Rattle.std.specs.Prelude.{slice_get, true}
+use Rattle.std.proofs.lemmas.List.Elements.{All-nil}
 use Rattle.core_form.specs.Code.{code_of}
-use Rattle.core_form.specs.Fine.{home_of}
-use Rattle.core_form.specs.Proper.{IsProper, IsProperCode, MayClear, cells_of}
+use Rattle.core_form.specs.Proper.{IsDeclared, IsProper, IsProperList, MayWrite, cells_of}
 use Rattle.core_form.specs.declared.build.Nodes.{Nodes}
 use Rattle.core_form.specs.declared.program.Body.{Body}
-use Rattle.core_form.specs.declared.program.BodyKind.TheVariants as kinds
 use Rattle.core_form.specs.declared.program.Leaf.{Leaf}
 use Rattle.core_form.specs.declared.program.Program.{Program}
 use Rattle.core_form.specs.declared.program.Var.{Var}
 use Rattle.first_path.specs.declared.source.Source.{Source}
 use Rattle.first_lower.specs.Assembled.{HasRoots, IsAssembled}
 use Rattle.first_lower.specs.Known.{Each, KnownLine}
-use Rattle.first_lower.specs.Lowered.{low_leaf, low_var}
+use Rattle.first_lower.specs.Lowered.{elaboration, low_leaf, low_procedure, low_var}
 use Rattle.first_lower.specs.declared.program.Roots.{Roots}
 use Rattle.first_lower.proofs.Entries.{All-slice_get, entry_here, entry_of}
 use Rattle.first_lower.proofs.Seen.{statements_known, statements_proper, variables_proper}
-use Rattle.first_lower.proofs.WellFormed.{home_is, procedure_code, three_bodies}
+use Rattle.first_lower.proofs.WellFormed.{procedure_code, three_bodies}
 use Rattle.first_path.specs.Nested.{AreNested}
 
 cells_through : (p : Program) (leaf : ℕ) (l : Leaf) → slice_get p.leaves leaf ≡ Some l → cells_of p leaf ≡ l.cells
@@ -37,22 +36,36 @@ module _ (s : Source) (keys : List (List ℕ)) (nodes : Nodes) (r : Roots) (p : 
       let row = entry_here (low_leaf s.spec.«package») s.spec.variables leaf (omega arith) in
       cells_through p leaf (low_leaf s.spec.«package» leaf row.0) (ap (λ rows. slice_get rows leaf) a.leaves ∙ row.1)
 
-  fresh : (leaf : ℕ) → leaf < length keys → MayClear kinds.Elaboration (home_of p leaf)
-  fresh leaf l = rw (home_is s keys nodes r p a roots same leaf l) refl
+  -- the elaboration of the spec declares the variables
+  fresh : (leaf : ℕ) → leaf < length keys → IsDeclared p (elaboration s.spec.«package» s.spec.«package» r.spec true) leaf
+  fresh leaf l =
+      let row = entry_here (low_leaf s.spec.«package») s.spec.variables leaf (omega arith) in
+      let var = entry_here (low_var s.spec.«package») s.spec.variables leaf (omega arith) in
+      rw (ap (λ rows. slice_get rows leaf) a.leaves ∙ row.1, ap (λ rows. slice_get rows leaf) a.vars ∙ var.1)
+      (record { kind = refl; home = (record { 0 = 0 }, (refl, refl)); part = refl })
+
+  writes : (body : Body) → body.formals ≡ [] → (leaf : ℕ) → leaf < length keys → MayWrite p body leaf
+  writes body none leaf l = rw none (All-nil _)
 
   no_formals : All (λ (body : Body). body.formals ≡ []) p.bodies
   no_formals = three_bodies s keys nodes r p a roots same (λ (body : Body). body.formals ≡ []) refl refl refl
 
   proper_code : AreNested s.body.procedure.lines → Each (KnownLine keys) s.body.procedure.lines
-      → All (λ (body : Body). IsProperCode (cells_of p) (λ leaf. MayClear body.kind (home_of p leaf)) (code_of p.exprs p.stmts body.code)) p.bodies
-  proper_code nested known = three_bodies s keys nodes r p a roots same (λ (body : Body). IsProperCode (cells_of p) (λ leaf. MayClear body.kind (home_of p leaf)) (code_of p.exprs p.stmts body.code))
-      (rw (a.exprs, a.stmts, roots.spec_code) (variables_proper keys (cells_of p) scalar (λ leaf. MayClear kinds.Elaboration (home_of p leaf)) fresh 0 s.spec.variables (omega arith)))
+      → All (λ (body : Body). IsProperList p body (code_of p.exprs p.stmts body.code)) p.bodies
+  proper_code nested known =
+      let spec = elaboration s.spec.«package» s.spec.«package» r.spec true in
+      let procedure = low_procedure keys s r.procedure in
+      three_bodies s keys nodes r p a roots same (λ (body : Body). IsProperList p body (code_of p.exprs p.stmts body.code))
+      (rw (a.exprs, a.stmts, roots.spec_code) (variables_proper keys p spec scalar (writes spec refl) fresh 0 s.spec.variables (omega arith)))
       (rw (a.exprs, a.stmts, roots.body_code) tt)
-      (rw (a.exprs, a.stmts, procedure_code s keys nodes r p a roots same nested) (statements_proper keys (cells_of p) scalar (λ leaf. MayClear kinds.Procedure (home_of p leaf)) nested.statements (statements_known keys nested.statements s.body.procedure.lines nested.written known)))
+      (
+      rw (a.exprs, a.stmts, procedure_code s keys nodes r p a roots same nested)
+      (statements_proper keys p procedure scalar (writes procedure refl) nested.statements (statements_known keys nested.statements s.body.procedure.lines nested.written known))
+      )
 
   pub proper : AreNested s.body.procedure.lines → Each (KnownLine keys) s.body.procedure.lines → IsProper p
   proper nested known = record {
     leaves = leaves_agree;
     roots = λ b body is k. All-slice_get (λ (x : Body). x.formals ≡ []) p.bodies b body no_formals is;
-    code = λ b body is. All-slice_get (λ (x : Body). IsProperCode (cells_of p) (λ leaf. MayClear x.kind (home_of p leaf)) (code_of p.exprs p.stmts x.code)) p.bodies b body (proper_code nested known) is;
+    code = λ b body is. All-slice_get (λ (x : Body). IsProperList p x (code_of p.exprs p.stmts x.code)) p.bodies b body (proper_code nested known) is;
   }

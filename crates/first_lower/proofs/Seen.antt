@@ -1,11 +1,14 @@
 -- The code of statements and of declarations names leaves of variables alone, each as a whole.
-use Rattle.std.proofs.Common.{◌≡◌, ℕ, ◌+◌, ◌<◌, ◌≤◌, true, List, [], ◌∷◌, ◌++◌, length, refl, sym, ap, subst, arith}
+use Rattle.std.proofs.Common.{◌≡◌, ℕ, ◌+◌, ◌<◌, ◌≤◌, true, inl, inr, List, [], ◌∷◌, ◌++◌, length, refl, sym, ap, subst, arith}
 use Rattle.std.specs.Prelude.{unwrap_or}
 use Rattle.std.specs.List.{position_or_len}
 use Rattle.std.specs.Str.{bytes_eq}
-use Rattle.core_form.specs.Code.{Expr, Code, Nothing}
+use Rattle.core_form.specs.Code.{Expr, Code, Then, Clear, Nothing}
+use Rattle.core_form.specs.Exits.{ExitsIn}
 use Rattle.core_form.specs.Fine.{NamesIn, CodeIn}
-use Rattle.core_form.specs.Proper.{PlacesRight, IsWholeRight, IsProperCode}
+use Rattle.core_form.specs.Proper.{PlacesRight, IsDeclared, IsProperCode, IsProperList, IsProperMember, IsWholeRight, MayWrite, cells_of}
+use Rattle.core_form.specs.declared.program.Body.{Body}
+use Rattle.core_form.specs.declared.program.Program.{Program}
 use Rattle.first_conditions.specs.Conditions.{key}
 use Rattle.first_path.specs.declared.source.Line.{Line}
 use Rattle.first_path.specs.declared.source.Line.TheVariants as line
@@ -20,7 +23,7 @@ use Rattle.first_path.specs.declared.source.Variable.{Variable}
 use Rattle.first_path.specs.declared.source.Word.{Word}
 use Rattle.first_path.specs.Nested.{Statements, Last, More, Statement, Null, Assign, If, IfElse, statements_then, statement_then}
 use Rattle.first_lower.specs.Known.{Each, KnownWord, KnownPrimary, KnownTerm, KnownSum, KnownTest, KnownLine}
-use Rattle.first_lower.specs.Lowered.{leaf_of, chain, low_primary, low_term, low_terms, low_sum, low_relation, low_test, low_codes, low_statement, low_statements, low_variables}
+use Rattle.first_lower.specs.Lowered.{leaf_of, chain, low_primary, low_term, low_terms, low_sum, low_relation, low_test, low_assignment, low_codes, low_statement, low_statements, low_variables}
 use Rattle.first_lower.proofs.Found.{found, within}
 
 pub leaf_below : (keys : List (List ℕ)) (w : Word) → KnownWord keys w → leaf_of keys w < length keys
@@ -145,30 +148,80 @@ module _ (keys : List (List ℕ)) (cells : ℕ → ℕ) (scalar : (leaf : ℕ) �
   right_test : (t : Test) → KnownTest keys t → PlacesRight cells (low_test keys t)
   right_test t known = right_relation t.relation (low_sum keys t.left) (low_sum keys t.right) (right_sum t.left known.0) (right_sum t.right known.1)
 
-  module _ (may : ℕ → Type 0) where
-    chain_proper : (cs : List Code) → Each (IsProperCode cells may) cs → IsProperCode cells may (chain cs)
-    chain_proper [] h = tt
-    chain_proper (c ∷ cs) h = (h.0, chain_proper cs h.1)
+-- code of scalar leaves, none of which is a formal of mode in
+module _ (keys : List (List ℕ)) (p : Program) (body : Body) (scalar : (leaf : ℕ) → leaf < length keys → cells_of p leaf ≡ 1)
+    (writes : (leaf : ℕ) → leaf < length keys → MayWrite p body leaf) where
+  right : (leaf : ℕ) → leaf < length keys → IsWholeRight (cells_of p) leaf Nothing true 1
+  right = whole_right keys (cells_of p) scalar
 
-    mutual
-      codes_proper : (ss : Statements) → KnownAll keys ss → Each (IsProperCode cells may) (low_codes keys ss)
-      codes_proper (Last s) known = statement_proper s known
-      codes_proper (More s ss) known =
-          each_append (IsProperCode cells may) (low_statement keys s) (low_codes keys ss) (statement_proper s known.0) (codes_proper ss known.1)
+  assignment_proper : (target : Word) (value : Sum) → KnownWord keys target → KnownSum keys value → IsProperCode p body (low_assignment keys target value)
+  assignment_proper target value known known' =
+      let l = leaf_below keys target known in
+      (writes (leaf_of keys target) l, (right (leaf_of keys target) l, tt), right_sum keys (cells_of p) scalar value known')
 
-      statement_proper : (s : Statement) → KnownOne keys s → Each (IsProperCode cells may) (low_statement keys s)
-      statement_proper Null known = tt
-      statement_proper (Assign target value) known =
-          (((whole_right (leaf_of keys target) (leaf_below keys target known.0), tt), right_sum value known.1), tt)
-      statement_proper (If test main) known =
-          ((right_test test known.0, chain_proper (low_codes keys main) (codes_proper main known.1), tt), tt)
-      statement_proper (IfElse test main other) known =
-          ((right_test test known.0, chain_proper (low_codes keys main) (codes_proper main known.1), chain_proper (low_codes keys other) (codes_proper other known.2)), tt)
+  chain_proper : (cs : List Code) → Each (IsProperCode p body) cs → IsProperCode p body (chain cs)
+  chain_proper [] h = tt
+  chain_proper (c ∷ cs) h = (h.0, chain_proper cs h.1)
 
-    pub statements_proper : (ss : Statements) → KnownAll keys ss → IsProperCode cells may (low_statements keys ss)
-    statements_proper ss known = chain_proper (low_codes keys ss) (codes_proper ss known)
+  mutual
+    codes_proper : (ss : Statements) → KnownAll keys ss → Each (IsProperCode p body) (low_codes keys ss)
+    codes_proper (Last s) known = statement_proper s known
+    codes_proper (More s ss) known =
+        each_append (IsProperCode p body) (low_statement keys s) (low_codes keys ss) (statement_proper s known.0) (codes_proper ss known.1)
 
-  pub variables_proper : (may : ℕ → Type 0) → ((leaf : ℕ) → leaf < length keys → may leaf) → (n : ℕ) (vs : List Variable) → n + length vs ≤ length keys → IsProperCode cells may (low_variables n vs)
-  variables_proper may fresh n [] l = tt
-  variables_proper may fresh n (v ∷ vs) l =
-      (fresh n (omega arith), (((whole_right n (omega arith), tt), tt), variables_proper may fresh (n + 1) vs (omega arith)))
+    statement_proper : (s : Statement) → KnownOne keys s → Each (IsProperCode p body) (low_statement keys s)
+    statement_proper Null known = tt
+    statement_proper (Assign target value) known = (assignment_proper target value known.0 known.1, tt)
+    statement_proper (If test main) known =
+        ((right_test keys (cells_of p) scalar test known.0, chain_proper (low_codes keys main) (codes_proper main known.1), tt), tt)
+    statement_proper (IfElse test main other) known = (
+      (
+        right_test keys (cells_of p) scalar test known.0,
+        chain_proper (low_codes keys main) (codes_proper main known.1),
+        chain_proper (low_codes keys other) (codes_proper other known.2),
+      ),
+      tt,
+    )
+
+  -- what is proper anywhere is so in the body's own list
+  member_proper : (a : Code) → IsProperCode p body a → IsProperMember p body a
+  member_proper (Clear leaf) h = inl h
+  member_proper a h = h
+
+  list_proper : (a : Code) → IsProperCode p body a → IsProperList p body a
+  list_proper (Then a b) h = (member_proper a h.0, list_proper b h.1)
+  list_proper a h = member_proper a h
+
+  pub statements_proper : (ss : Statements) → KnownAll keys ss → IsProperList p body (low_statements keys ss)
+  statements_proper ss known = list_proper (low_statements keys ss) (chain_proper (low_codes keys ss) (codes_proper ss known))
+
+  pub variables_proper : ((leaf : ℕ) → leaf < length keys → IsDeclared p body leaf) → (n : ℕ) (vs : List Variable) → n + length vs ≤ length keys → IsProperList p body (low_variables n vs)
+  variables_proper fresh n [] l = tt
+  variables_proper fresh n (v ∷ vs) l =
+      let below : n < length keys = omega arith in
+      (inr (fresh n below), ((writes n below, (right n below, tt), tt), variables_proper fresh (n + 1) vs (omega arith)))
+
+-- there are no loops, and nothing leaves one
+module _ (keys : List (List ℕ)) where
+  chain_exits : (cs : List Code) → Each (ExitsIn 0) cs → ExitsIn 0 (chain cs)
+  chain_exits [] h = tt
+  chain_exits (c ∷ cs) h = (h.0, chain_exits cs h.1)
+
+  mutual
+    codes_exits : (ss : Statements) → Each (ExitsIn 0) (low_codes keys ss)
+    codes_exits (Last s) = statement_exits s
+    codes_exits (More s ss) = each_append (ExitsIn 0) (low_statement keys s) (low_codes keys ss) (statement_exits s) (codes_exits ss)
+
+    statement_exits : (s : Statement) → Each (ExitsIn 0) (low_statement keys s)
+    statement_exits Null = tt
+    statement_exits (Assign target value) = (tt, tt)
+    statement_exits (If test main) = ((chain_exits (low_codes keys main) (codes_exits main), tt), tt)
+    statement_exits (IfElse test main other) =
+        ((chain_exits (low_codes keys main) (codes_exits main), chain_exits (low_codes keys other) (codes_exits other)), tt)
+
+  pub statements_exits : (ss : Statements) → ExitsIn 0 (low_statements keys ss)
+  statements_exits ss = chain_exits (low_codes keys ss) (codes_exits ss)
+
+pub variables_exits : (n : ℕ) (vs : List Variable) → ExitsIn 0 (low_variables n vs)
+variables_exits n [] = tt
+variables_exits n (v ∷ vs) = (tt, (tt, variables_exits (n + 1) vs))

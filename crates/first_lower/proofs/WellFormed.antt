@@ -5,9 +5,9 @@ use Rattle.std.specs.List.{flat_map}
 use Rattle.std.proofs.lemmas.List.Elements.{All-nil, All-cons, All-append, All-same}
 use Rattle.spark_base.specs.declared.numbers.BodyNo.{BodyNo}
 use Rattle.spark_base.specs.declared.numbers.StmtNo.{StmtNo}
-use Rattle.core_form.specs.Added.{AreFineNodes}
 use Rattle.core_form.specs.Code.{code_of}
-use Rattle.core_form.specs.Fine.{CodeIn, HasFineNodes, IsSeenIn, IsFineBody, IsFineItem, IsFineVar, IsFineState, IsFinePartOf, IsFineConstituent, IsWellFormed, home_of}
+use Rattle.core_form.specs.Exits.{ExitsIn}
+use Rattle.core_form.specs.Fine.{AreFineNodes, CodeIn, HasFineNodes, IsSeenIn, IsFineBody, IsFineItem, IsFineVar, IsFineState, IsFinePartOf, IsFineConstituent, IsWellFormed, home_of}
 use Rattle.core_form.specs.declared.build.Nodes.{Nodes}
 use Rattle.core_form.specs.declared.contract.GlobalItem.{GlobalItem}
 use Rattle.core_form.specs.declared.contract.Mode.{Mode}
@@ -32,7 +32,7 @@ use Rattle.first_lower.specs.Lowered.{each_from, elaboration, low_entry, low_glo
 use Rattle.first_lower.specs.declared.program.Roots.{Roots}
 use Rattle.first_lower.proofs.Entries.{All-slice_get, all_entries, length_entries, entry_here}
 use Rattle.first_lower.proofs.Lines.{ends_code}
-use Rattle.first_lower.proofs.Seen.{leaf_below, statements_in, statements_known, variables_in}
+use Rattle.first_lower.proofs.Seen.{leaf_below, statements_exits, statements_in, statements_known, variables_exits, variables_in}
 use Rattle.first_path.specs.Nested.{AreNested}
 
 all_none : {X : Type 0} (P : X → Type 0) (xs : List X) → xs ≡ [] → All P xs
@@ -156,6 +156,12 @@ module _ (s : Source) (keys : List (List ℕ)) (nodes : Nodes) (r : Roots) (p : 
       (rw (a.exprs, a.stmts, roots.body_code) tt)
       (rw (a.exprs, a.stmts, procedure_code nested) (statements_in keys (IsSeenIn p b) (seen b) nested.statements (statements_known keys nested.statements s.body.procedure.lines nested.written known)))
 
+  exits : (nested : AreNested s.body.procedure.lines) → All (λ (body : Body). ExitsIn 0 (code_of p.exprs p.stmts body.code)) p.bodies
+  exits nested = three_bodies (λ (body : Body). ExitsIn 0 (code_of p.exprs p.stmts body.code))
+      (rw (a.exprs, a.stmts, roots.spec_code) (variables_exits 0 s.spec.variables))
+      (rw (a.exprs, a.stmts, roots.body_code) tt)
+      (rw (a.exprs, a.stmts, procedure_code nested) (statements_exits keys nested.statements))
+
   fine_nodes : AreFineNodes nodes → nodes.leaves ≡ length keys → HasFineNodes p
   fine_nodes fine leaves =
       let e : length p.leaves ≡ nodes.leaves = length_leaves ∙ sym leaves in
@@ -178,4 +184,5 @@ module _ (s : Source) (keys : List (List ℕ)) (nodes : Nodes) (r : Roots) (p : 
     part_of = all_none (IsFinePartOf p) p.part_of a.part_of;
     constituents = all_none (IsFineConstituent p) p.constituents a.constituents;
     names = λ b body is. All-slice_get (λ (x : Body). CodeIn (IsSeenIn p b) (code_of p.exprs p.stmts x.code)) p.bodies b body (names nested lines b) is;
+    exits = λ b body is. All-slice_get (λ (x : Body). ExitsIn 0 (code_of p.exprs p.stmts x.code)) p.bodies b body (exits nested) is;
   }

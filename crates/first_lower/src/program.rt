@@ -5,7 +5,7 @@ ghost use Rattle.first_conditions.specs.Conditions.{MeetsConditions, variable_ke
 ghost use Rattle.first_lower.specs.Lowered.{IsLowered, elaboration, low_procedure, low_package, assignments_of};
 ghost use Rattle.first_conditions.specs.Conditions.{entries_of};
 ghost use Rattle.first_path.specs.Nested.{AreNested};
-ghost use Rattle.core_form.specs.Added.{AreFineNodes};
+ghost use Rattle.core_form.specs.Fine.{AreFineNodes};
 ghost use Rattle.first_lower.specs.Assembled.{HasRoots, IsAssembled, bodies_of};
 ghost use Rattle.first_lower.specs.Known.{Each, KnownEntry, KnownLine};
 ghost use Rattle.first_lower.specs.Steps.{Adds};

@@ -1,6 +1,6 @@
 -- A silent report: no check of the program finds anything.
 use Rattle.std.proofs.Common.{◌≡◌, ◌⊎◌, inl, inr, ℕ, zero, suc, ◌+◌, ◌<◌, Bool, true, false, ◌||◌, List, [], ◌∷◌, ◌++◌, length, map, Option, Some, None, refl, sym, ap, ◌∙◌, subst, arith, if◌then◌else◌}
-use Rattle.std.specs.Prelude.{IsTrue, slice_get}
+use Rattle.std.specs.Prelude.{IsSomeAnd, IsTrue, slice_get}
 use Rattle.std.specs.List.{Contains}
 use Rattle.std.specs.Option.{option_to_list}
 use Rattle.std.proofs.lemmas.List.Folds.{list_any_at}
@@ -8,7 +8,7 @@ use Rattle.spark_base.specs.declared.numbers.BodyNo.{BodyNo}
 use Rattle.spark_base.specs.declared.numbers.Span.{Span}
 use Rattle.core_form.specs.Code.{At, Outcome, Next, Code, Skip, Then, Assign, Clear, Branch, Repeat, Exit, Called, Guard, Delay, ReadClock, Stop, code_of}
 use Rattle.core_form.specs.Fine.{CodeIn, IsWellFormed, home_of}
-use Rattle.core_form.specs.Proper.{IsProper, IsProperCode, MayClear, cells_of}
+use Rattle.core_form.specs.Proper.{Declares, IsDeclared, IsProper, IsProperCode, IsProperList, IsProperMember, MayClear}
 use Rattle.core_form.specs.declared.contract.Contract.{Contract}
 use Rattle.core_form.specs.declared.contract.GlobalItem.{GlobalItem}
 use Rattle.core_form.specs.declared.contract.Mode.{Mode}
@@ -34,19 +34,19 @@ use Rattle.spark_messages.specs.declared.messages.Message.{Message}
 use Rattle.spark_messages.specs.Message.{HaveSame, is_grave}
 use Rattle.flow_driver.specs.declared.report.Report.{Report}
 use Rattle.flow_driver.specs.GlobalCheck.{global_messages, input_var, listed_item, listed_messages, output_var, unlisted_from, unlisted_item, unlisted_var, used_mode, var_named, var_of, is_listed, is_written, is_read, is_left}
-use Rattle.flow_driver.specs.Report.{AreFlowMessages, HasReport, IsProgramOf, IsReading, IsReport, IsReportOf}
-use Rattle.flow_driver.specs.Run.{AreSources, has_errors, verdict}
-use Rattle.flow_driver.specs.Runs.{IsReadClean}
+use Rattle.flow_driver.specs.Report.{AreFlowMessages, HasReport, IsProgramOf, IsProgram, IsReading, IsReport, IsReportOf}
+use Rattle.flow_driver.specs.Run.{has_errors, verdict}
+use Rattle.flow_driver.specs.Runs.{HaveCleanRuns}
 use Rattle.flow_driver.proofs.OneReport.{contract, found_is, one_equation, one_spelled, procedure}
 use Rattle.flow_driver.proofs.SameMessages.{messages_same}
 use Rattle.core_form.specs.declared.program.Formal.{Formal}
 use Rattle.flow_relations.specs.Equation.{is_unset, is_unset_leaf, is_unset_var}
-use Rattle.flow_relations.specs.Flow.{reads_of, reads_of_all}
+use Rattle.flow_relations.specs.Flow.{inside, reads_of, reads_of_all, unrolling}
 use Rattle.flow_driver.specs.GlobalCheck.{has}
 use Rattle.flow_driver.proofs.WithinGlobals.{found_leaf, read_listed, written_listed}
 use Rattle.run_laws.specs.Clean.{IsGlobalOf, IsListed, is_input, is_output}
 use Rattle.run_laws.specs.Laws.{HasCleanRuns, IsSilent, IsWithinGlobal}
-use Rattle.run_laws.specs.Unassigned.{AreElaborated, all, behind, opens, opens_behind, roots_of, sites}
+use Rattle.run_laws.specs.Unassigned.{AreElaborated, all, behind, opens, opens_behind, roots_of, sites, sites_of_rounds}
 use Rattle.run_laws.proofs.Calls.{clean_runs}
 use Rattle.run_laws.proofs.Names.{sound_body}
 use Rattle.run_laws.proofs.Rows.{library_below}
@@ -167,6 +167,7 @@ IsPackaged (Some (Home.Local c)) = ⊥
 IsPackaged (Some (Home.Formal c)) = ⊥
 IsPackaged (Some (Home.Outcome c)) = ⊥
 IsPackaged (Some (Home.Spare c)) = ⊥
+IsPackaged (Some Home.Clock) = ⊥
 
 -- The tables of a lowered program
 
@@ -244,61 +245,99 @@ module _ (s : Source) (p : Program) (h : IsLowered s p) where
       leaf None = tt
       leaf (Some l) = var l.var.0 (slice_get p.vars l.var.0) refl
 
--- no library leaf may be cleared by a procedure
-clears_none : (o : Option Home) → IsPackaged o → MayClear kinds.Procedure o → ⊥
+-- no leaf of a package may be cleared within a statement
+clears_none : (o : Option Home) → IsPackaged o → MayClear o → ⊥
 clears_none None g m = m
-clears_none (Some (Home.Package k)) g m = cc
+clears_none (Some (Home.Package k)) g m = m
 clears_none (Some (Home.Local c)) g m = g
 clears_none (Some (Home.Formal c)) g m = g
 clears_none (Some (Home.Outcome c)) g m = g
 clears_none (Some (Home.Spare c)) g m = g
+clears_none (Some Home.Clock) g m = g
 
 -- What a code reads
 
--- a code that clears nothing keeps each name as it is
-kept_same : (p : Program) (cells : ℕ → ℕ) (may : ℕ → Type 0) (a : Code) → IsProperCode cells may a → ((x : ℕ) → may x → ⊥) → (o : Outcome) (v w : ℕ) → (plain_flow p a).kept o v w → v ≡ w
-kept_same p cells may Skip h n o v w k = k.1.1
-kept_same p cells may (Then a b) h n o v w (inl k) = kept_same p cells may a h.0 n o v w k.1
-kept_same p cells may (Then a b) h n o v w (inr k) = kept_same p cells may a h.0 n Next v k.0 k.1.0 ∙ kept_same p cells may b h.1 n o k.0 w k.1.1
-kept_same p cells may (Assign (At leaf part true count) e at) h n o v w k = k.1.1
-kept_same p cells may (Assign (At leaf part false count) e at) h n o v w k = k.1.1
-kept_same p cells may (Clear leaf) h n o v w k = absurd (n leaf h)
-kept_same p cells may (Branch e a b) h n o v w (inl k) = kept_same p cells may a h.1 n o v w k
-kept_same p cells may (Branch e a b) h n o v w (inr k) = kept_same p cells may b h.2 n o v w k
-kept_same p cells may (Repeat a) h n o v w k = absurd h
-kept_same p cells may (Exit u) h n o v w k = absurd h
-kept_same p cells may (Called b actuals at) h n o v w k = absurd h
-kept_same p cells may (Guard u barrier b) h n o v w k = absurd h
-kept_same p cells may (Delay e) h n o v w k = absurd h
-kept_same p cells may (ReadClock to) h n o v w k = absurd h
-kept_same p cells may Stop h n o v w k = absurd k
+module _ (p : Program) (body : Body) (clears : (x : ℕ) → MayClear (home_of p x) → ⊥) where
+  -- a code that clears nothing keeps each name as it is, and so do rounds of it
+  rounds_kept : (a : Code) → ((o : Outcome) (v w : ℕ) → (plain_flow p a).kept o v w → v ≡ w)
+      → (n : ℕ) (o : Outcome) (v w : ℕ) → (unrolling (length p.leaves) (plain_flow p a) n).kept o v w → v ≡ w
+  rounds_kept a h zero o v w k = absurd k
+  rounds_kept a h (suc n) o v w (inl k) = h o v w k.1
+  rounds_kept a h (suc n) o v w (inr k) = h Next v k.0 k.1.0 ∙ rounds_kept a h n o k.0 w k.1.1
 
--- and has no site, where nothing is tracked
-no_sites : (p : Program) (cells : ℕ → ℕ) (may : ℕ → Type 0) (a : Code) → IsProperCode cells may a → ((x : ℕ) → may x → ⊥) → CodeIn (Below p) a
-    → (v : ℕ → Type 0) → ((x : ℕ) → Below p x → v x → ⊥) → (x : ℕ) → sites all p a v x → ⊥
-no_sites p cells may Skip h n c v e x i = i
-no_sites p cells may (Then a b) h n c v e x (inl i) = no_sites p cells may a h.0 n c.0 v e x i
-no_sites p cells may (Then a b) h n c v e x (inr i) = no_sites p cells may b h.1 n c.1 (behind all p a Next v) empty x i.1
-  where
-    empty : (y : ℕ) → Below p y → behind all p a Next v y → ⊥
-    empty y l (inl j) = let same : length p.leaves ≡ y = kept_same p cells may a h.0 n Next (length p.leaves) y j.0 in let less : y < length p.leaves = l in omega arith
-    empty y l (inr j) = e y l j.0
-no_sites p cells may (Assign (At leaf part whole count) k at) h n c v e x i = cases i.1
-  where
-    cases : reads_of k x ⊎ reads_of_all part x → ⊥
-    cases (inl r) = e x (read_named (Below p) k x c.1 r) i.0
-    cases (inr r) = e x (all_read_named (Below p) part x c.0.1 r) i.0
-no_sites p cells may (Clear leaf) h n c v e x i = i
-no_sites p cells may (Branch k a b) h n c v e x (inl i) = e x (read_named (Below p) k x c.0 i.1) i.0
-no_sites p cells may (Branch k a b) h n c v e x (inr (inl i)) = no_sites p cells may a h.1 n c.1 v e x i
-no_sites p cells may (Branch k a b) h n c v e x (inr (inr i)) = no_sites p cells may b h.2 n c.2 v e x i
-no_sites p cells may (Repeat a) h n c v e x i = absurd h
-no_sites p cells may (Exit u) h n c v e x i = absurd h
-no_sites p cells may (Called b actuals at) h n c v e x i = absurd h
-no_sites p cells may (Guard u barrier b) h n c v e x i = absurd h
-no_sites p cells may (Delay k) h n c v e x i = absurd h
-no_sites p cells may (ReadClock to) h n c v e x i = absurd h
-no_sites p cells may Stop h n c v e x i = i
+  kept_same : (a : Code) → IsProperCode p body a → (o : Outcome) (v w : ℕ) → (plain_flow p a).kept o v w → v ≡ w
+  kept_same Skip h o v w k = k.1.1
+  kept_same (Then a b) h o v w (inl k) = kept_same a h.0 o v w k.1
+  kept_same (Then a b) h o v w (inr k) = kept_same a h.0 Next v k.0 k.1.0 ∙ kept_same b h.1 o k.0 w k.1.1
+  kept_same (Assign (At leaf part true count) e at) h o v w k = k.1.1
+  kept_same (Assign (At leaf part false count) e at) h o v w k = k.1.1
+  kept_same (Clear leaf) h o v w k = absurd (clears leaf h)
+  kept_same (Branch e a b) h o v w (inl k) = kept_same a h.1 o v w k
+  kept_same (Branch e a b) h o v w (inr k) = kept_same b h.2 o v w k
+  kept_same (Repeat a) h o v w k = rounds_kept a (kept_same a h) k.0 (inside o) v w k.1
+  kept_same (Exit u) h o v w k = k.1.1
+  kept_same (Called b actuals at) h o v w k = absurd h
+  kept_same (Guard u barrier b) h o v w k = absurd h
+  kept_same (Delay e) h o v w k = absurd h
+  kept_same (ReadClock to) h o v w k = absurd h
+  kept_same Stop h o v w k = absurd k
+
+  -- and has no site, where nothing is tracked
+  abbrev IsUntracked : (ℕ → Type 0) → Type 0
+  IsUntracked v = (x : ℕ) → Below p x → v x → ⊥
+
+  behind_untracked : (a : Code) → IsProperCode p body a → (v : ℕ → Type 0) → IsUntracked v → IsUntracked (behind all p a Next v)
+  behind_untracked a h v e y l (inl j) = let same : length p.leaves ≡ y = kept_same a h Next (length p.leaves) y j.0 in let less : y < length p.leaves = l in omega arith
+  behind_untracked a h v e y l (inr j) = e y l j.0
+
+  rounds_no_sites : (a : Code) → IsProperCode p body a → ((v : ℕ → Type 0) → IsUntracked v → (x : ℕ) → sites all p a v x → ⊥)
+      → (n : ℕ) (v : ℕ → Type 0) → IsUntracked v → (x : ℕ) → sites_of_rounds all p (plain_flow p a) (sites all p a) n v x → ⊥
+  rounds_no_sites a h g zero v e x i = i
+  rounds_no_sites a h g (suc n) v e x (inl i) = g v e x i
+  rounds_no_sites a h g (suc n) v e x (inr i) = rounds_no_sites a h g n (behind all p a Next v) (behind_untracked a h v e) x i.1
+
+  no_sites : (a : Code) → IsProperCode p body a → CodeIn (Below p) a → (v : ℕ → Type 0) → IsUntracked v → (x : ℕ) → sites all p a v x → ⊥
+  no_sites Skip h c v e x i = i
+  no_sites (Then a b) h c v e x (inl i) = no_sites a h.0 c.0 v e x i
+  no_sites (Then a b) h c v e x (inr i) = no_sites b h.1 c.1 (behind all p a Next v) (behind_untracked a h.0 v e) x i.1
+  no_sites (Assign (At leaf part whole count) k at) h c v e x i = cases i.1
+    where
+      cases : reads_of k x ⊎ reads_of_all part x → ⊥
+      cases (inl r) = e x (read_named (Below p) k x c.1 r) i.0
+      cases (inr r) = e x (all_read_named (Below p) part x c.0.1 r) i.0
+  no_sites (Clear leaf) h c v e x i = i
+  no_sites (Branch k a b) h c v e x (inl i) = e x (read_named (Below p) k x c.0 i.1) i.0
+  no_sites (Branch k a b) h c v e x (inr (inl i)) = no_sites a h.1 c.1 v e x i
+  no_sites (Branch k a b) h c v e x (inr (inr i)) = no_sites b h.2 c.2 v e x i
+  no_sites (Repeat a) h c v e x i = rounds_no_sites a h (λ w f. no_sites a h c w f) i.0 v e x i.1
+  no_sites (Exit u) h c v e x i = i
+  no_sites (Called b actuals at) h c v e x i = absurd h
+  no_sites (Guard u barrier b) h c v e x i = absurd h
+  no_sites (Delay k) h c v e x i = absurd h
+  no_sites (ReadClock to) h c v e x i = absurd h
+  no_sites Stop h c v e x i = i
+
+  -- a body that declares no library leaf clears none in its own list either
+  module _ (kind : body.kind ≡ kinds.Procedure) where
+    declares_none : (leaf : ℕ) → IsDeclared p body leaf → ⊥
+    declares_none leaf d = declared (slice_get p.leaves leaf) d
+      where
+        var : (o : Option Var) → IsSomeAnd o (Declares body) → ⊥
+        var None d = d
+        var (Some v) d = let z : kinds.Elaboration ≡ kinds.Procedure = sym d.kind ∙ kind in absurd (cc)
+
+        declared : (o : Option Leaf) → IsSomeAnd o (λ l. IsSomeAnd (slice_get p.vars l.var.0) (Declares body)) → ⊥
+        declared None d = d
+        declared (Some l) d = var (slice_get p.vars l.var.0) d
+
+    member_code : (a : Code) → IsProperMember p body a → IsProperCode p body a
+    member_code (Clear leaf) (inl h) = h
+    member_code (Clear leaf) (inr h) = absurd (declares_none leaf h)
+    member_code a h = h
+
+    list_code : (a : Code) → IsProperList p body a → IsProperCode p body a
+    list_code (Then a b) h = (member_code a h.0, list_code b h.1)
+    list_code a h = member_code a h
 
 -- declarations with initial values that are numbers read nothing
 no_initial_sites : (p : Program) (n : ℕ) (vs : List Variable) (v : ℕ → Type 0) (x : ℕ) → sites all p (low_variables n vs) v x → ⊥
@@ -352,16 +391,16 @@ module _ (p : Program) (fine : IsWellFormed p) (proper : IsProper p) (q : IsQuie
       procedure_is : (y : Body) → y ≡ body → y.kind ≡ kinds.Procedure → body.kind ≡ kinds.Procedure
       procedure_is y e k = ap (λ (z : Body). z.kind) (sym e) ∙ k
 
-      never : body.kind ≡ kinds.Procedure → (leaf : ℕ) → MayClear body.kind (home_of p leaf) → ⊥
-      never k leaf m = clears_none (home_of p leaf) (packaged q.source p q.lowered leaf) (subst (λ y. MayClear y (home_of p leaf)) k m)
+      clears : (leaf : ℕ) → MayClear (home_of p leaf) → ⊥
+      clears leaf m = clears_none (home_of p leaf) (packaged q.source p q.lowered leaf) m
 
       at : (n : ℕ) → slice_get (elaboration q.source.spec.«package» q.source.spec.«package» q.lowered.first true ∷ elaboration q.source.spec.«package» q.source.body.«package» q.lowered.second false ∷ procedure q.source q.lowered.third ∷ []) n ≡ Some body → n ≡ b → ⊥
       at zero e f = no_initial_sites p 0 q.source.spec.variables _ x (subst (λ a. sites all p a (λ v. IsTrue (starts_unset p b body.formals v)) x) first_is (subst (λ n. sites all p (code_of_body p n) (λ v. IsTrue (starts_unset p b body.formals v)) x) (sym f) i))
       at (suc zero) e f = let j : sites all p Skip (λ v. IsTrue (starts_unset p b body.formals v)) x = subst (λ a. sites all p a (λ v. IsTrue (starts_unset p b body.formals v)) x) second_is (subst (λ n. sites all p (code_of_body p n) (λ v. IsTrue (starts_unset p b body.formals v)) x) (sym f) i) in j
       at (suc (suc zero)) e f =
           let k = procedure_is (procedure q.source q.lowered.third) (some_body _ _ e) refl in
-          let code = subst (IsProperCode (cells_of p) (λ leaf. MayClear body.kind (home_of p leaf))) (sym (body_at b body is)) (proper.code b body is) in
-          no_sites p (cells_of p) (λ leaf. MayClear body.kind (home_of p leaf)) (code_of_body p b) code (never k) (sound_body p fine proper b).below (λ v. IsTrue (starts_unset p b body.formals v)) (λ v l t. unset v t) x i
+          let code = list_code p body clears k (code_of_body p b) (subst (IsProperList p body) (sym (body_at b body is)) (proper.code b body is)) in
+          no_sites p body clears (code_of_body p b) code (sound_body p fine proper b).below (λ v. IsTrue (starts_unset p b body.formals v)) (λ v l t. unset v t) x i
       at (suc (suc (suc n))) e f = let z : Option Body = None in let y : z ≡ Some body = e in absurd (cc)
 
   elaborations : AreElaborated p (roots_of p) all
@@ -381,26 +420,20 @@ module _ (p : Program) (fine : IsWellFormed p) (proper : IsProper p) (q : IsQuie
 pub silent_runs : (bytes : List ℕ) (r : Report) (p : Program) → HasReport bytes r → verdict r ≡ 0 → IsProgramOf bytes p → HasCleanRuns p
 silent_runs bytes r p h v k = clean_runs p k.fine k.proper (is_silent p k.fine k.proper (quiet bytes r p h v k))
 
--- the program of what was read, where its report has no error
-pub read_clean : {D : Type 0} (told : D → Option (List (List ℕ × List ℕ))) (gaps : D → Bool) (names : List (List ℕ)) (files : D) (sources : List (List ℕ)) (r : Report)
-    → AreSources (told files) (gaps files) names sources → IsReport sources r → verdict r ≡ 0 → IsReadClean told gaps names files
-unfolding IsReport
-read_clean told gaps names files [] r t h v = absurd h
-read_clean told gaps names files (bytes ∷ next ∷ more) r t h v = absurd h
-read_clean {D} told gaps names files (bytes ∷ []) r t h v = at_reading h.reading h.is_reading h.is_report
+-- sources whose report has no error have clean runs
+pub clean_sources : (sources : List (List ℕ)) (r : Report) → IsReport sources r → verdict r ≡ 0 → HaveCleanRuns sources
+unfolding IsReport IsProgram
+clean_sources [] r h v = absurd h
+clean_sources (bytes ∷ next ∷ more) r h v = absurd h
+clean_sources (bytes ∷ []) r h v = at_reading h.reading h.is_reading h.is_report
   where
-    at_reading : (o : Option Program) → IsReading bytes o → IsReportOf o r → IsReadClean told gaps names files
+    at_reading : (o : Option Program) → IsReading bytes o → IsReportOf o r → HaveCleanRuns (bytes ∷ [])
     at_reading None reading report =
         let parts = silent_by r.refused (has_errors r.messages) v in
         let z : true ≡ false = sym (ap (λ (x : Report). x.refused) report) ∙ parts.0 in
         absurd (cc)
     at_reading (Some p) reading report = record {
-      bytes = bytes;
-      report = r;
       program = p;
-      are_told = t;
-      has_report = h;
-      silent = v;
       is_program = reading;
-      clean = silent_runs bytes r p h v reading;
+      clean = λ q k. silent_runs bytes r q h v k;
     }

@@ -3,14 +3,15 @@ ghost use Rattle.core_form.specs.Code.{Code, code_of};
 ghost use Rattle.core_form.specs.Fine.{IsWellFormed, home_of};
 ghost use Rattle.flow_relations.specs.Equation.{IsLibrary, IsPassed, IsRowLeaf, equation, is_out, opened, plain_flow, starts_unset};
 ghost use Rattle.flow_relations.specs.Flow.{IsSame, clearing, row_of, seq};
-ghost use Rattle.flow_relations.specs.Sets.{Has, Tells};
-ghost use Rattle.flow_relations.specs.Told.{AreRowsSized, AreSized, HasRoom, IsRow, told};
+ghost use Rattle.flow_bits.specs.Sets.{Has, Relates, Tells, TellsPairs};
+ghost use Rattle.flow_relations.specs.Told.{AreRowsSized, AreSized, HasRoom, IsRow, IsSideSized, told};
 
 use crate::facts::{Facts, prepend_clear};
 use crate::names::add_names;
-use crate::rows::{Row, Square};
+use crate::sides::{Side, add_cross, any, both};
 use crate::statements::{Room, facts_of, new_room, void_of};
 use core_form::{Formal, Home, ParamMode, Program};
+use flow_bits::{Row, Square};
 use spark_base::{BodyNo, LeafNo, NoMemory, VarNo};
 use std::alloc::Global;
 
@@ -52,7 +53,7 @@ fn starts_unset(program: &Program, body: BodyNo, formals: &[Formal], leaf: LeafN
 {
     let var = program.leaves.at(leaf.0 as usize).var;
     match program.vars.at(var.0 as usize).home {
-        Home::Package(_) => false,
+        Home::Package(_) | Home::Clock => false,
         Home::Local(of) | Home::Outcome(of) | Home::Spare(of) => of == body,
         Home::Formal(of) => of == body && is_out(formals, var),
     }
@@ -66,7 +67,7 @@ fn is_library(program: &Program, leaf: LeafNo) -> bool
 {
     let var = program.leaves.at(leaf.0 as usize).var;
     match program.vars.at(var.0 as usize).home {
-        Home::Package(_) => true,
+        Home::Package(_) | Home::Clock => true,
         Home::Local(_) | Home::Formal(_) | Home::Outcome(_) | Home::Spare(_) => false,
     }
 }
@@ -80,7 +81,7 @@ fn is_passed(program: &Program, body: BodyNo, leaf: LeafNo) -> bool
     let var = program.leaves.at(leaf.0 as usize).var;
     match program.vars.at(var.0 as usize).home {
         Home::Formal(of) | Home::Outcome(of) => of == body,
-        Home::Package(_) | Home::Local(_) | Home::Spare(_) => false,
+        Home::Package(_) | Home::Local(_) | Home::Spare(_) | Home::Clock => false,
     }
 }
 
@@ -104,7 +105,7 @@ fn open_leaf(
     ensures set { starts_unset program.now body.0 formals.now leaf.0 ≡ false → facts.new ≡ facts.old }
 {
     if starts_unset(program, body, formals, leaf) {
-        prepend_clear(facts, void_of(program), leaf.0, &mut room.row);
+        prepend_clear(facts, void_of(program), leaf.0, &room.reads, &mut room.row);
     }
 }
 
@@ -172,6 +173,28 @@ fn row_leaves(alloc: Global, program: &Program, body: BodyNo) -> Result<Row, NoM
     Ok(row)
 }
 
+// Adds the leaves that may be kept at one outcome.
+fn keeps_into(side: &Side, into: &mut Row)
+    requires { IsSideSized (length into.old) side.now }
+    ensures size { length into.new ≡ length into.old }
+    ensures set { Tells into.new (λ v. Has into.old v ⊎ Relates side.now.kept v v) }
+{
+    if side.reached {
+        side.kept.diagonal_into(into);
+    }
+}
+
+// Adds what decides at one outcome.
+fn depends_into(side: &Side, into: &mut Square)
+    requires { IsSideSized (length into.old) side.now }
+    ensures size { length into.new ≡ length into.old }
+    ensures set { TellsPairs into.new (λ v w. Relates into.old v w ⊎ Relates side.now.dep v w) }
+{
+    if side.reached {
+        into.union_into(&side.dep);
+    }
+}
+
 // The row that facts tell, in some leaves.
 fn row_from(alloc: Global, facts: Facts, named: Row) -> Result<BodyRow, NoMemory>
     requires size { AreSized (length named) facts }
@@ -181,29 +204,40 @@ fn row_from(alloc: Global, facts: Facts, named: Row) -> Result<BodyRow, NoMemory
     let Facts {
         mut reads,
         mut writes,
+        decides,
         next,
-        kept,
-        mut dep,
+        back,
+        leaves: _,
     } = facts;
     let mut keeps = Row::new(alloc, reads.size())?;
-    kept.diagonal_into(&mut keeps);
+    keeps_into(&next, &mut keeps);
+    keeps_into(&back, &mut keeps);
     keeps.intersect_into(&named);
+    let mut depends = Square::new(alloc, reads.size())?;
+    depends_into(&next, &mut depends);
+    depends_into(&back, &mut depends);
+    add_cross(
+        &mut depends,
+        &decides,
+        &writes,
+        both(next.reached, back.reached),
+    );
+    depends.restrict(&named);
     reads.intersect_into(&named);
     writes.intersect_into(&named);
-    dep.restrict(&named);
     Ok(BodyRow {
         leaves: named,
-        returns: next,
+        returns: any(next.reached, back.reached),
         reads,
         writes,
         keeps,
-        depends: dep,
+        depends,
     })
 }
 
 /// The row of a body by its code: its own leaves but the formals of modes in and in out begin unassigned.
 ///
-/// A program of more than 16,384 leaves is want of memory, since a square of flags takes a byte for each pair.
+/// A program of more than 46,336 names is want of memory, since a square has a bit for each pair.
 pub fn row_of_body(alloc: Global, program: &Program, body: BodyNo) -> Result<BodyRow, NoMemory>
     requires fine { IsWellFormed program.now }
     requires in_range { body.0 < length program.now.bodies }

@@ -1,14 +1,16 @@
-ghost use Rattle.std.specs.Prelude.{◌≡◌, ℕ, ◌+◌, ◌<◌, length, IfOk, IsTrue};
+ghost use Rattle.std.specs.Prelude.{◌≡◌, ℕ, ◌+◌, ◌<◌, ◌++◌, length, IfOk, OnOk, IsTrue};
+ghost use Rattle.core_form.specs.Code.{Leaves};
 ghost use Rattle.core_form.specs.Fine.{IsWellFormed};
 ghost use Rattle.flow_relations.specs.Equation.{plain_flow, code_of_body};
 ghost use Rattle.flow_relations.specs.Flow.{IsSame};
-ghost use Rattle.flow_relations.specs.Sets.{Has, Relates};
-ghost use Rattle.flow_relations.specs.Told.{AreSized, AreFlowSized, AreEndsSized, told, flow_told, ends_tell};
+ghost use Rattle.flow_relations.specs.declared.flows.Outcome.{Outcome};
+ghost use Rattle.flow_relations.specs.Told.{AreSized, AreFlowSized, told, flow_told, ends_tell, side_at};
 
 use crate::facts::Facts;
-use crate::rows::{Row, Square};
+use crate::sides::Side;
 use crate::statements::{facts_of, new_room, void_of};
 use core_form::Program;
+use flow_bits::{Row, Square};
 use smallvec::SmallVec;
 use spark_base::{BodyNo, NoMemory};
 use std::alloc::Global;
@@ -58,7 +60,7 @@ impl MadeWith<Global> for End {
 
 /// The flow of the code of a body. Its rows have a place for each leaf and one more, for "not assigned".
 ///
-/// A program of more than 16,384 leaves is want of memory, since a square of flags takes a byte for each pair.
+/// A program of more than 46,336 names is want of memory, since a square has a bit for each pair.
 pub fn flow_of(alloc: Global, program: &Program, body: BodyNo) -> Result<Flow, NoMemory>
     requires fine { IsWellFormed program.now }
     requires in_range { body.0 < length program.now.bodies }
@@ -73,20 +75,19 @@ pub fn flow_of(alloc: Global, program: &Program, body: BodyNo) -> Result<Flow, N
 
 fn flow_from(alloc: Global, facts: Facts) -> Result<Flow, NoMemory>
     requires size { AreSized (length facts.reads) facts }
-    requires kept { (v w : ℕ) → Relates facts.kept v w → IsTrue facts.next }
-    requires dep { (v w : ℕ) → Relates facts.dep v w → IsTrue facts.next }
+    requires none { (n : ℕ) → IsTrue (side_at facts (Leaves n)).reached → ⊥ }
     ensures size { IfOk result (λ f. AreFlowSized (length facts.reads) f) }
     ensures flow { IfOk result (λ f. IsSame (flow_told f) (told facts)) }
 {
     let Facts {
         reads,
         writes,
+        decides,
         next,
-        kept,
-        dep,
+        back,
+        leaves: _,
     } = facts;
-    let decides = Row::new(alloc, reads.size())?;
-    let ends = ends_from(alloc, next, kept, dep)?;
+    let ends = ends_from(alloc, next, back)?;
     Ok(Flow {
         reads,
         writes,
@@ -95,23 +96,24 @@ fn flow_from(alloc: Global, facts: Facts) -> Result<Flow, NoMemory>
     })
 }
 
-// The one end, where the next statement is reached, or none.
-fn ends_from(
-    alloc: Global,
-    next: bool,
-    kept: Square,
-    dep: Square,
-) -> Result<SmallVec<End, 4>, NoMemory>
-    ensures size { IfOk result (λ ends. length dep ≡ length kept → AreEndsSized (length kept) ends.items) }
-    ensures ends { IfOk result (λ ends. ends.items ≡ ends_tell next kept dep) }
+// The ends of the outcomes that are reached, but for those of leaving loops.
+fn ends_from(alloc: Global, next: Side, back: Side) -> Result<SmallVec<End, 4>, NoMemory>
+    ensures ends { IfOk result (λ ends. ends.items
+        ≡ ends_tell Outcome.Next next.reached next.kept next.dep ++ ends_tell Outcome.Back back.reached back.kept back.dep) }
 {
     let mut ends = SmallVec::new(alloc);
-    if next {
-        ends.push(End {
-            outcome: Outcome::Next,
-            kept,
-            dep,
-        })?;
-    }
+    add_end(&mut ends, Outcome::Next, next)?;
+    add_end(&mut ends, Outcome::Back, back)?;
     Ok(ends)
+}
+
+// Adds the end at an outcome, where it is reached.
+fn add_end(ends: &mut SmallVec<End, 4>, outcome: Outcome, side: Side) -> Result<(), NoMemory>
+    ensures ends { OnOk result (ends.new.items ≡ ends.old.items ++ ends_tell outcome side.reached side.kept side.dep) }
+{
+    let Side { reached, kept, dep } = side;
+    if reached {
+        ends.push(End { outcome, kept, dep })?;
+    }
+    Ok(())
 }

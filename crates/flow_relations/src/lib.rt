@@ -7,11 +7,19 @@ mod flows;
 pub mod laws;
 mod names;
 mod reads;
-pub mod rows;
+mod sides;
 mod statements;
 
 pub use equation::{BodyRow, row_of_body};
 pub use flows::{End, Flow, Outcome, flow_of};
 
 #[cfg(test)]
+mod loop_tests;
+#[cfg(test)]
+mod random_tests;
+#[cfg(test)]
+mod samples;
+#[cfg(test)]
 mod tests;
+#[cfg(test)]
+mod unrolled;

@@ -11,7 +11,7 @@ use Rattle.core_form.specs.declared.program.Program.{Program}
 use Rattle.spark_base.specs.declared.numbers.Span.{Span}
 use Rattle.flow_relations.specs.Equation.{code_of_body, plain_flow}
 use Rattle.run_model.specs.Values.{CellNo, cells_from, cells_of_place, first_of, then_some, truth_in, value_of, written}
-use Rattle.run_model.specs.Machine.{Effect, Frame, Item, Do, Again, act, bare, cells_seen, change_library, change_own, changes, goes_to, is_library, moved, push, reads_by, sized, writes_by}
+use Rattle.run_model.specs.Machine.{Acted, Does, CheckFails, Effect, Frame, Remaining, Do, Again, act, bare, cells_seen, change_library, change_own, changes, goes_to, is_library, moved, push, resume, reads_by, sized, unless_failed, writes_by}
 use Rattle.run_model.specs.Runs.{IsAssigned, IsSized}
 use Rattle.run_laws.specs.Clean.{Allows, IsAmong, IsCleanStack, IsGlobalOf, IsListed, is_input, is_output}
 use Rattle.run_laws.specs.Laws.{IsSilent}
@@ -21,10 +21,15 @@ use Rattle.run_model.proofs.Lists.{seen_sized, written_length}
 use Rattle.run_laws.proofs.Names.{IsSound}
 use Rattle.run_laws.proofs.Rows.{reads_listed, writes_listed}
 use Rattle.run_laws.proofs.Touches.{comes, named_of, site_of, whole_first, write_of}
-use Rattle.run_laws.proofs.Walks.{Below, Goes, goes_branch, goes_clear, goes_part, goes_push, goes_whole, goes_within, none}
+use Rattle.run_laws.proofs.Walks.{Below, Goes, goes_branch, goes_clear, goes_part, goes_push, goes_exit, goes_round, goes_whole, goes_within, none}
 
 some_same : (d e : Effect) → Some d ≡ Some e → d ≡ e
 some_same d e h = cc
+
+-- an effect is that of a statement whose checks hold
+not_failed : (o : Option Effect) (e : Effect) → unless_failed o ≡ Does e → o ≡ Some e
+not_failed None e h = let z : CheckFails ≡ Does e = h in absurd (cc)
+not_failed (Some d) e h = let z : Does d ≡ Does e = h in cc
 
 -- a leaf that the body may name has a cell that is not assigned
 abbrev pub Loose : Program → (ℕ → Type 0) → List (List (Option ℤ)) → List (List (Option ℤ)) → ℕ → Type 0
@@ -49,14 +54,14 @@ pub record Fits (p : Program) (names owed : ℕ → Type 0) (library : List (Lis
   pub declared : Goes none (read_by p f.body) (written_by p f.body) names all p f.left Next (Unwritten p f.note)
   pub noted : (leaf cell : ℕ) → IsAmong leaf cell f.note → IsTrue (is_library p leaf) → written_by p f.body leaf
 
-abbrev pub frame : ℕ → List Item → List (List (Option ℤ)) → List CellNo → Frame (List CellNo)
+abbrev pub frame : ℕ → List Remaining → List (List (Option ℤ)) → List CellNo → Frame (List CellNo)
 frame b left own note = record { body = b; left = left; own = own; note = note }
 
 -- a frame, when its next statement is done
 abbrev pub done : Program → List (List (Option ℤ)) → ℕ → List (List (Option ℤ)) → List CellNo → Effect → Frame (List CellNo)
 done p library b own note e = frame b e.left (change_own p e.change own) note
 
-module _ (p : Program) (names owed : ℕ → Type 0) (library own : List (List (Option ℤ))) (sized_library : IsSized p library) (b : ℕ) (note : List CellNo) (k : List Item) where
+module _ (p : Program) (names owed : ℕ → Type 0) (library own : List (List (Option ℤ))) (sized_library : IsSized p library) (b : ℕ) (note : List CellNo) (k : List Remaining) where
   -- a leaf whose cells are written, from one on
   module _ (leaf : ℕ) (new : List (Option ℤ)) where
     loose_other : (x : ℕ) → x ≢ leaf → Loose p names (change_library p (Some (record { leaf = leaf; cells = new })) library) (change_own p (Some (record { leaf = leaf; cells = new })) own) x → Loose p names library own x
@@ -190,7 +195,7 @@ module _ (p : Program) (names owed : ℕ → Type 0) (library own : List (List (
       tracked x h (inr d) = inr (loose_other leaf (bare (length (cells_seen p library own leaf))) x d h, d)
 
   -- no cell is written, and this remains
-  goes_on : (a : Code) (left : List Item) → Fits p names owed library (frame b (Do a ∷ k) own note) → writes_by (cells_seen p library own) a ≡ []
+  goes_on : (a : Code) (left : List Remaining) → Fits p names owed library (frame b (Do a ∷ k) own note) → writes_by (cells_seen p library own) a ≡ []
       → Goes all none all names owed p left Next (Loose p names library own)
       → Goes none (read_by p b) (written_by p b) names all p left Next (Unwritten p note)
       → After a (record { left = left; change = None })
@@ -205,7 +210,7 @@ module _ (p : Program) (names owed : ℕ → Type 0) (library own : List (List (
   }
 
   -- what a statement does keeps it
-  pub steps : (a : Code) (e : Effect) → Fits p names owed library (frame b (Do a ∷ k) own note) → act (cells_seen p library own) a k ≡ Some e → After a e
+  pub steps : (a : Code) (e : Effect) → Fits p names owed library (frame b (Do a ∷ k) own note) → act (cells_seen p library own) a k ≡ Does e → After a e
   steps Skip e f h =
       let is : record { left = k; change = None } ≡ e = cc in
       subst (After Skip) is (goes_on Skip k f refl (goes_push all none all names owed p Skip k (Loose p names library own) f.assigned) (goes_push none (read_by p b) (written_by p b) names all p Skip k (Unwritten p note) f.declared))
@@ -215,9 +220,9 @@ module _ (p : Program) (names owed : ℕ → Type 0) (library own : List (List (
   steps (Assign (At leaf part whole count) x at) e f h =
       let cells = cells_seen p library own in
       let to = At leaf part whole count in
-      let v = comes (value_of cells x) (λ v. then_some (sized to v) (λ w. moved cells to w k)) e h in
+      let v = comes (value_of cells x) (λ v. then_some (sized to v) (λ w. moved cells to w k)) e (not_failed _ e h) in
       let w = comes (sized to v.value) (λ w. moved cells to w k) e v.then_is in
-      let n = comes (first_of cells to) (λ first. changes leaf (written (cells leaf) first w.value) k) e w.then_is in
+      let n = comes (first_of cells to) (λ first. Some (changes leaf (written (cells leaf) first w.value) k)) e w.then_is in
       let is = some_same (record { left = k; change = Some (record { leaf = leaf; cells = written (cells leaf) n.value w.value }) }) e n.then_is in
       subst (After (Assign to x at)) is (moves leaf part whole count x at n.value w.value f (size_is v.value w.value w.is) n.is)
     where
@@ -228,23 +233,27 @@ module _ (p : Program) (names owed : ℕ → Type 0) (library own : List (List (
           cases true i j = let same : v ≡ w = cc in ap length (sym same) ∙ eqb-true (length v) count i
           cases false i j = let z : Option (List ℤ) = None in let y : z ≡ Some w = j in absurd (cc)
   steps (Clear leaf) e f h =
-      let is = some_same (record { left = k; change = Some (record { leaf = leaf; cells = bare (length (cells_seen p library own leaf)) }) }) e h in
+      let is : record { left = k; change = Some (record { leaf = leaf; cells = bare (length (cells_seen p library own leaf)) }) } ≡ e = cc in
       subst (After (Clear leaf)) is (clears leaf f)
   steps (Branch x a c) e f h =
       let cells = cells_seen p library own in
-      let v = comes (value_of cells x) (λ v. then_some (truth_in v) (λ t. goes_to (push (cond t a c) k))) e h in
-      let t = comes (truth_in v.value) (λ t. goes_to (push (cond t a c) k)) e v.then_is in
+      let v = comes (value_of cells x) (λ v. then_some (truth_in v) (λ t. Some (goes_to (push (cond t a c) k)))) e (not_failed _ e h) in
+      let t = comes (truth_in v.value) (λ t. Some (goes_to (push (cond t a c) k))) e v.then_is in
       let is = some_same (record { left = push (cond t.value a c) k; change = None }) e t.then_is in
       subst (After (Branch x a c)) is (goes_on (Branch x a c) (push (cond t.value a c) k) f refl
       (goes_branch all none all names owed p x a c k (Loose p names library own) t.value f.assigned)
       (goes_branch none (read_by p b) (written_by p b) names all p x a c k (Unwritten p note) t.value f.declared))
-  steps (Repeat a) e f h = absurd f.assigned.0.below
-  steps (Exit o) e f h = absurd f.assigned.0.below
+  steps (Repeat a) e f h =
+      let is : record { left = push a (Again a ∷ k); change = None } ≡ e = cc in
+      subst (After (Repeat a)) is (goes_on (Repeat a) (push a (Again a ∷ k)) f refl (goes_round all none all names owed p a k (Loose p names library own) f.assigned) (goes_round none (read_by p b) (written_by p b) names all p a k (Unwritten p note) f.declared))
+  steps (Exit o) e f h =
+      let is : record { left = resume k o; change = None } ≡ e = cc in
+      subst (After (Exit o)) is (goes_on (Exit o) (resume k o) f refl (goes_exit all none all names owed p o k (Loose p names library own) f.assigned) (goes_exit none (read_by p b) (written_by p b) names all p o k (Unwritten p note) f.declared))
   steps (Called c actuals at) e f h = absurd f.assigned.0.below
   steps (Guard o barrier c) e f h = absurd f.assigned.0.below
   steps (Delay x) e f h = absurd f.assigned.0.below
   steps (ReadClock to) e f h = absurd f.assigned.0.below
-  steps Stop e f h = let z : Option Effect = None in let y : z ≡ Some e = h in absurd (cc)
+  steps Stop e f h = let y : CheckFails ≡ Does e = h in absurd (cc)
 
 -- The next step is clean
 
@@ -256,14 +265,14 @@ module _ (p : Program) (silent : IsSilent p) (names owed : ℕ → Type 0) (libr
       cases None e = absurd (n e)
       cases (Some v) e = (v, e)
 
-  reads_assigned : (a : Code) (k : List Item) → Fits p names owed library (frame b (Do a ∷ k) own note) → (leaf cell : ℕ) → IsAmong leaf cell (reads_by (cells_seen p library own) a) → IsAssigned (cells_seen p library own leaf) cell
+  reads_assigned : (a : Code) (k : List Remaining) → Fits p names owed library (frame b (Do a ∷ k) own note) → (leaf cell : ℕ) → IsAmong leaf cell (reads_by (cells_seen p library own) a) → IsAssigned (cells_seen p library own leaf) cell
   reads_assigned a k f leaf cell h =
       let named = named_of names (cells_seen p library own) a leaf cell f.assigned.0.named h in
       let below = (named_of (Below p) (cells_seen p library own) a leaf cell f.assigned.0.below h).0 in
       cell_is (cells_seen p library own leaf) cell named.1
       (λ e. f.assigned.0.reads leaf below (site_of all p names (cells_seen p library own) a leaf cell f.assigned.0.named h (Loose p names library own) (named.0, (cell, e))))
 
-  allows : (a : Code) (k : List Item) → Fits p names owed library (frame b (Do a ∷ k) own note) → (c : Contract) → IsGlobalOf p b c
+  allows : (a : Code) (k : List Remaining) → Fits p names owed library (frame b (Do a ∷ k) own note) → (c : Contract) → IsGlobalOf p b c
       → Allows p c note (reads_by (cells_seen p library own) a) (writes_by (cells_seen p library own) a)
   allows a k f c is = record {
     outputs = λ leaf cell h l. writes_listed p silent b sound.below c is leaf l (f.declared.0.writes leaf l (write_of p (cells_seen p library own) a leaf cell h));
@@ -280,7 +289,7 @@ module _ (p : Program) (silent : IsSilent p) (names owed : ℕ → Type 0) (libr
           inl (reads_listed p silent b sound.below c is leaf l
           (f.declared.0.reads leaf below (site_of none p names (cells_seen p library own) a leaf cell f.declared.0.named h (Unwritten p note) (l, (cell, (omega arith, d))))))
 
-  pub clean : (left : List Item) → Fits p names owed library (frame b left own note) → IsCleanStack p library (frame b left own note ∷ [])
+  pub clean : (left : List Remaining) → Fits p names owed library (frame b left own note) → IsCleanStack p library (frame b left own note ∷ [])
   clean [] f = (λ leaf cell h. absurd h, ((λ c is. record { outputs = λ leaf cell h l. absurd h; inputs = λ leaf cell h l. absurd h }), tt))
   clean (Do a ∷ k) f = (reads_assigned a k f, (allows a k f, tt))
-  clean (Again a ∷ k) f = absurd f.assigned.0.below
+  clean (Again a ∷ k) f = (λ leaf cell h. absurd h, ((λ c is. record { outputs = λ leaf cell h l. absurd h; inputs = λ leaf cell h l. absurd h }), tt))

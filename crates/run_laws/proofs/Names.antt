@@ -8,8 +8,9 @@ use Rattle.spark_base.specs.declared.numbers.StmtNo.{StmtNo}
 use Rattle.core_form.specs.declared.code.CoreExpr.{CoreExpr}
 use Rattle.core_form.specs.declared.code.CoreStmt.{CoreStmt}
 use Rattle.core_form.specs.Code.{Expr, At, Code, Skip, Then, Assign, Clear, Branch, Repeat, Exit, Called, Guard, Delay, ReadClock, Stop, exprs_at, spot_at, expr_at, codes_at, code_at, expr_of, code_of}
-use Rattle.core_form.specs.Fine.{CodeIn, NamesIn, AllNamesIn, SpotIn, ExprsBelow, StmtsBelow, PlaceBelow, IsFineExpr, IsFineStmt, AreFineExprs, AreFineStmts, IsFineBody, IsSeenIn, IsWellFormed, home_of}
-use Rattle.core_form.specs.Proper.{IsProper, IsProperCode, MayClear, cells_of}
+use Rattle.core_form.specs.Exits.{ExitsIn}
+use Rattle.core_form.specs.Fine.{CodeIn, NamesIn, AllNamesIn, SpotIn, ExprsBelow, StmtsBelow, PlaceBelow, IsFineExpr, IsFineStmt, AreFineExprs, AreFineStmts, IsFineBody, IsSeenIn, IsWellFormed}
+use Rattle.core_form.specs.Proper.{IsProper, IsProperCode, IsProperList, IsProperMember}
 use Rattle.core_form.specs.declared.program.Body.{Body}
 use Rattle.core_form.specs.declared.program.Program.{Program}
 use Rattle.flow_relations.specs.Equation.{code_at_body, code_of_body}
@@ -50,9 +51,9 @@ module _ (P : ℕ → Type 0) (leaves : ℕ) (inside : (x : ℕ) → x < leaves 
   stmt_named count f h g n k (CoreStmt.Move to e at) b = (place_named f count h to b.0, h e b.1)
   stmt_named count f h g n k (CoreStmt.Fresh leaf) b = inside leaf.0 b
   stmt_named count f h g n k (CoreStmt.If test x y) b = (h test b.0, k x b.1, k y b.2)
-  stmt_named count f h g n k (CoreStmt.Loop body) b = absurd b
-  stmt_named count f h g n k (CoreStmt.Leave m) b = absurd b
-  stmt_named count f h g n k CoreStmt.Back b = absurd b
+  stmt_named count f h g n k (CoreStmt.Loop body) b = k body b
+  stmt_named count f h g n k (CoreStmt.Leave m) b = tt
+  stmt_named count f h g n k CoreStmt.Back b = tt
   stmt_named count f h g n k (CoreStmt.Call callee actuals at) b = absurd b
   stmt_named count f h g n k (CoreStmt.Guarded object barrier call) b = absurd b
   stmt_named count f h g n k (CoreStmt.DelayUntil e) b = absurd b
@@ -79,37 +80,47 @@ module _ (P : ℕ → Type 0) (leaves : ℕ) (inside : (x : ℕ) → x < leaves 
   stmts_named exprs stmts fine fine' (suc n) s h k = stmt_found exprs stmts fine fine' s (λ c l. stmts_named exprs stmts fine fine' n c (omega arith) (omega arith)) (slice_get stmts s.0) refl k
 
 -- places of proper code are right
-pub right_code : (p : Program) (may : ℕ → Type 0) (a : Code) → IsProperCode (cells_of p) may a → IsRight p a
-right_code p may Skip h = tt
-right_code p may (Then a b) h = (right_code p may a h.0, right_code p may b h.1)
-right_code p may (Assign (At leaf part whole count) e at) h = h.0.0
-right_code p may (Clear leaf) h = tt
-right_code p may (Branch e a b) h = (right_code p may a h.1, right_code p may b h.2)
-right_code p may (Repeat a) h = absurd h
-right_code p may (Exit o) h = absurd h
-right_code p may (Called b actuals at) h = absurd h
-right_code p may (Guard o barrier c) h = absurd h
-right_code p may (Delay e) h = absurd h
-right_code p may (ReadClock to) h = absurd h
-right_code p may Stop h = tt
+right_code : (p : Program) (body : Body) (a : Code) → IsProperCode p body a → IsRight p a
+right_code p body Skip h = tt
+right_code p body (Then a b) h = (right_code p body a h.0, right_code p body b h.1)
+right_code p body (Assign (At leaf part whole count) e at) h = h.1.0
+right_code p body (Clear leaf) h = tt
+right_code p body (Branch e a b) h = (right_code p body a h.1, right_code p body b h.2)
+right_code p body (Repeat a) h = right_code p body a h
+right_code p body (Exit o) h = tt
+right_code p body (Called b actuals at) h = absurd h
+right_code p body (Guard o barrier c) h = absurd h
+right_code p body (Delay e) h = absurd h
+right_code p body (ReadClock to) h = absurd h
+right_code p body Stop h = tt
+
+right_member : (p : Program) (body : Body) (a : Code) → IsProperMember p body a → IsRight p a
+right_member p body (Clear leaf) h = tt
+right_member p body a h = right_code p body a h
+
+right_list : (p : Program) (body : Body) (a : Code) → IsProperList p body a → IsRight p a
+right_list p body (Then a b) h = (right_member p body a h.0, right_list p body b h.1)
+right_list p body a h = right_member p body a h
 
 -- the code of a body names what is there, and its own leaves and those of the library; its places are right
 pub record IsSound (p : Program) (b : ℕ) (a : Code) : Type 0 where
   pub below : CodeIn (Below p) a
   pub seen : CodeIn (IsSeenIn p b) a
   pub right : IsRight p a
+  pub exits : ExitsIn 0 a
 
 pub sound_body : (p : Program) → IsWellFormed p → IsProper p → (b : ℕ) → IsSound p b (code_of_body p b)
 sound_body p fine proper b = cases (slice_get p.bodies b) refl
   where
     cases : (o : Option Body) → slice_get p.bodies b ≡ o → IsSound p b (code_at_body p o)
-    cases None e = record { below = tt; seen = tt; right = tt }
+    cases None e = record { below = tt; seen = tt; right = tt; exits = tt }
     cases (Some body) e =
         let is : IsFineBody p body = All_got (IsFineBody p) p.bodies b body fine.bodies e in
         record {
           below = stmts_named (Below p) (length p.leaves) (λ x l. l) p.exprs p.stmts fine.nodes.exprs fine.nodes.stmts (suc body.code.0) body.code (omega arith) is.code;
           seen = fine.names b body e;
-          right = right_code p (λ leaf. MayClear body.kind (home_of p leaf)) (code_of p.exprs p.stmts body.code) (proper.code b body e);
+          right = right_list p body (code_of p.exprs p.stmts body.code) (proper.code b body e);
+          exits = fine.exits b body e;
         }
 
 -- the machine and the flow speak of the same code

@@ -11,12 +11,29 @@ use Rattle.core_form.specs.declared.program.Program.{Program}
 use Rattle.core_form.specs.declared.program.Leaf.{Leaf}
 use Rattle.core_form.specs.declared.program.Var.{Var}
 use Rattle.flow_relations.specs.Equation.{IsLibrary, clock_among, code_at_body, code_of_body, equation, is_unset, is_unset_leaf, is_unset_var, names_of, opened, plain_flow, starts_unset, whole_at, whole_code}
-use Rattle.run_model.specs.Machine.{is_library, is_package}
+use Rattle.flow_relations.specs.Flow.{Flow, inside, unrolling}
+use Rattle.run_model.specs.Machine.{is_library, is_library_home}
 use Rattle.run_laws.specs.Clean.{IsGlobalOf, IsListed, is_input, is_output}
 use Rattle.run_laws.specs.Laws.{IsSilent}
 use Rattle.run_laws.proofs.Walks.{Below}
 
 -- Named leaves
+
+module _ (void : ℕ) (f : Flow) (self : (o : Outcome) (x w : ℕ) → x < void → f.kept o x w → x ≡ w) where
+  rounds_self : (n : ℕ) (o : Outcome) (x w : ℕ) → x < void → (unrolling void f n).kept o x w → x ≡ w
+  rounds_self zero o x w l k = absurd k
+  rounds_self (suc n) o x w l (inl k) = self o x w l k.1
+  rounds_self (suc n) o x w l (inr k) = let e = self Next x k.0 l k.1.0 in e ∙ rounds_self n o k.0 w (subst (λ y. y < void) e l) k.1.1
+
+  rounds_read : (n x : ℕ) → x < void → (unrolling void f n).reads x → f.reads x
+  rounds_read zero x l h = absurd h
+  rounds_read (suc n) x l (inl h) = h
+  rounds_read (suc n) x l (inr h) = let e = self Next x h.1.0 l h.1.1.0 in rounds_read n x l (subst (unrolling void f n).reads (sym e) h.1.1.1)
+
+rounds_write : (void : ℕ) (f : Flow) (n x : ℕ) → (unrolling void f n).writes x → f.writes x
+rounds_write void f zero x h = absurd h
+rounds_write void f (suc n) x (inl h) = h
+rounds_write void f (suc n) x (inr h) = rounds_write void f n x h.1
 
 module _ (p : Program) where
   -- a leaf that is kept is itself
@@ -35,8 +52,8 @@ module _ (p : Program) where
       cases (inr j) = let e : x ≡ length p.leaves = j.0 in absurd (omega arith)
   kept_self P (Branch e a b) g o x w l (inl k) = kept_self P a g.1 o x w l k
   kept_self P (Branch e a b) g o x w l (inr k) = kept_self P b g.2 o x w l k
-  kept_self P (Repeat a) g o x w l k = absurd g
-  kept_self P (Exit u) g o x w l k = absurd g
+  kept_self P (Repeat a) g o x w l k = rounds_self (length p.leaves) (plain_flow p a) (kept_self P a g) k.0 (inside o) x w l k.1
+  kept_self P (Exit u) g o x w l k = k.1.1
   kept_self P (Called b actuals at) g o x w l k = absurd g
   kept_self P (Guard u barrier b) g o x w l k = absurd g
   kept_self P (Delay e) g o x w l k = absurd g
@@ -58,8 +75,8 @@ module _ (p : Program) where
   reads_named P (Branch e a b) g x l (inl h) = inl h
   reads_named P (Branch e a b) g x l (inr (inl h)) = inr (inl (reads_named P a g.1 x l h))
   reads_named P (Branch e a b) g x l (inr (inr h)) = inr (inr (reads_named P b g.2 x l h))
-  reads_named P (Repeat a) g x l h = absurd g
-  reads_named P (Exit u) g x l h = absurd g
+  reads_named P (Repeat a) g x l h = reads_named P a g x l (rounds_read (length p.leaves) (plain_flow p a) (kept_self P a g) h.0 x l h.1)
+  reads_named P (Exit u) g x l h = absurd h
   reads_named P (Called b actuals at) g x l h = absurd g
   reads_named P (Guard u barrier b) g x l h = absurd g
   reads_named P (Delay e) g x l h = absurd g
@@ -76,8 +93,8 @@ module _ (p : Program) where
   writes_named P (Clear leaf) g x h = h
   writes_named P (Branch e a b) g x (inl h) = inr (inl (writes_named P a g.1 x h))
   writes_named P (Branch e a b) g x (inr h) = inr (inr (writes_named P b g.2 x h))
-  writes_named P (Repeat a) g x h = absurd g
-  writes_named P (Exit u) g x h = absurd g
+  writes_named P (Repeat a) g x h = writes_named P a g x (rounds_write (length p.leaves) (plain_flow p a) h.0 x h.1)
+  writes_named P (Exit u) g x h = absurd h
   writes_named P (Called b actuals at) g x h = absurd g
   writes_named P (Guard u barrier b) g x h = absurd g
   writes_named P (Delay e) g x h = absurd g
@@ -90,7 +107,7 @@ pub library_below : (p : Program) (x : ℕ) → IsTrue (is_library p x) → Belo
 library_below p x h = cases p.leaves x (λ e. no_home e)
   where
     no_home : slice_get p.leaves x ≡ None → ⊥
-    no_home e = let z : IsTrue (is_package (elim (slice_get p.leaves x) [ None ↦ None | Some l ↦ (elim (slice_get p.vars l.var.0) [ None ↦ None | Some v ↦ Some v.home ]) ])) = h in let y : false ≡ true = rw e at z in cc
+    no_home e = let z : IsTrue (is_library_home (elim (slice_get p.leaves x) [ None ↦ None | Some l ↦ (elim (slice_get p.vars l.var.0) [ None ↦ None | Some v ↦ Some v.home ]) ])) = h in let y : false ≡ true = rw e at z in cc
 
     cases : {X : Type 0} → (xs : List X) (i : ℕ) → (slice_get xs i ≡ None → ⊥) → i < length xs
     cases [] i n = absurd (n refl)
@@ -100,30 +117,32 @@ library_below p x h = cases p.leaves x (λ e. no_home e)
 pub library_home : (p : Program) (x : ℕ) → IsTrue (is_library p x) → IsSomeAnd (home_of p x) IsLibrary
 library_home p x h = cases (home_of p x) h
   where
-    cases : (o : Option Home) → IsTrue (is_package o) → IsSomeAnd o IsLibrary
+    cases : (o : Option Home) → IsTrue (is_library_home o) → IsSomeAnd o IsLibrary
     cases None g = let z : false ≡ true = g in absurd (cc)
     cases (Some (Home.Package k)) g = tt
     cases (Some (Home.Local b)) g = let z : false ≡ true = g in absurd (cc)
     cases (Some (Home.Formal b)) g = let z : false ≡ true = g in absurd (cc)
     cases (Some (Home.Outcome b)) g = let z : false ≡ true = g in absurd (cc)
     cases (Some (Home.Spare b)) g = let z : false ≡ true = g in absurd (cc)
+    cases (Some Home.Clock) g = tt
 
 -- a library leaf does not begin unassigned
 library_set : (p : Program) (b : ℕ) (formals : List Formal) (x : ℕ) → IsTrue (is_library p x) → starts_unset p b formals x ≡ false
 library_set p b formals x h = leaf (slice_get p.leaves x) h
   where
-    home : (var : ℕ) (o : Option Var) → IsTrue (is_package (elim o [ None ↦ None | Some v ↦ Some v.home ])) → is_unset_var b formals var o ≡ false
+    home : (var : ℕ) (o : Option Var) → IsTrue (is_library_home (elim o [ None ↦ None | Some v ↦ Some v.home ])) → is_unset_var b formals var o ≡ false
     home var None g = refl
     home var (Some v) g = kind v.home g
       where
-        kind : (k : Home) → IsTrue (is_package (Some k)) → is_unset b formals var k ≡ false
+        kind : (k : Home) → IsTrue (is_library_home (Some k)) → is_unset b formals var k ≡ false
         kind (Home.Package k) j = refl
         kind (Home.Local c) j = let z : false ≡ true = j in absurd (cc)
         kind (Home.Formal c) j = let z : false ≡ true = j in absurd (cc)
         kind (Home.Outcome c) j = let z : false ≡ true = j in absurd (cc)
         kind (Home.Spare c) j = let z : false ≡ true = j in absurd (cc)
+        kind Home.Clock j = refl
 
-    leaf : (o : Option Leaf) → IsTrue (is_package (elim o [ None ↦ None | Some l ↦ (elim (slice_get p.vars l.var.0) [ None ↦ None | Some v ↦ Some v.home ]) ])) → is_unset_leaf p b formals o ≡ false
+    leaf : (o : Option Leaf) → IsTrue (is_library_home (elim o [ None ↦ None | Some l ↦ (elim (slice_get p.vars l.var.0) [ None ↦ None | Some v ↦ Some v.home ]) ])) → is_unset_leaf p b formals o ≡ false
     leaf None g = refl
     leaf (Some l) g = home l.var.0 (slice_get p.vars l.var.0) g
 

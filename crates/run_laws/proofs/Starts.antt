@@ -1,5 +1,5 @@
 -- A body that begins.
-use Rattle.std.proofs.Common.{◌≡◌, ◌⊎◌, inl, inr, ℕ, Bool, true, false, cond, List, [], Option, Some, None, refl, sym, ap, ◌∙◌, subst, ℤ}
+use Rattle.std.proofs.Common.{◌≡◌, ◌⊎◌, inl, inr, ℕ, ◌<◌, Bool, true, false, cond, List, [], Option, Some, None, refl, sym, ap, ◌∙◌, subst, ℤ, arith}
 use Rattle.std.specs.Prelude.{IsTrue, slice_get, slice_index_or}
 use Rattle.core_form.specs.Code.{Outcome, Next, Leaves, Returns}
 use Rattle.core_form.specs.Fine.{CodeIn}
@@ -11,7 +11,8 @@ use Rattle.run_laws.specs.Unassigned.{all, behind, opens, opens_behind, sites}
 use Rattle.run_laws.proofs.Bodies.{Fits, Loose, Unwritten, frame, read_by, written_by}
 use Rattle.run_model.proofs.Lists.{bare_sized}
 use Rattle.run_laws.proofs.Names.{IsSound, body_code_is}
-use Rattle.run_laws.proofs.Walks.{Below, Goes, Within, behind_within, goes_push, none, only_next, sites_empty, sites_parts, sites_within}
+use Rattle.flow_relations.proofs.Leaving.{leaves_within}
+use Rattle.run_laws.proofs.Walks.{Below, Goes, Within, behind_within, goes_push, none, sites_empty, sites_parts, sites_within}
 
 pub bools : (b : Bool) → (b ≡ true) ⊎ (b ≡ false)
 bools true = inl refl
@@ -84,4 +85,4 @@ root_begins p b sound library loose silent most =
     ends : (o : Outcome) → (plain_flow p (code_of_body p b)).can o → (x : ℕ) → Below p x → IsTrue (is_library p x) → behind all p (code_of_body p b) o (Loose p (Below p) library (bare_leaves p.leaves)) x → opens_behind p b loose x
     ends Next n x l k h = inl (behind_within all p (code_of_body p b) Next (Loose p (Below p) library (bare_leaves p.leaves)) (opens p loose) open_is x l h)
     ends Returns n x l k h = inr (behind_within all p (code_of_body p b) Returns (Loose p (Below p) library (bare_leaves p.leaves)) (opens p loose) open_is x l h)
-    ends (Leaves i) n x l k h = let z : Leaves i ≡ Next = only_next p (Below p) (code_of_body p b) sound.below (Leaves i) n in absurd (cc)
+    ends (Leaves i) n x l k h = let z : i < 0 = leaves_within p 0 (code_of_body p b) sound.exits i n in absurd (omega arith)

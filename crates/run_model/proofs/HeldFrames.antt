@@ -13,30 +13,38 @@ use Rattle.spark_base.specs.declared.numbers.StmtNo.{StmtNo}
 use Rattle.core_form.specs.Code.{code_of}
 use Rattle.core_form.specs.declared.program.Program.{Program}
 use Rattle.run_model.specs.declared.state.Frame.{Frame as HeldFrame}
+use Rattle.run_model.specs.declared.state.Rest.{Rest}
+use Rattle.run_model.specs.declared.state.Rest.TheVariants as rest
 use Rattle.run_model.specs.declared.state.State.{State as HeldState}
 use Rattle.run_model.specs.declared.steps.Stepped.{Stepped as Answer}
 use Rattle.run_model.specs.declared.steps.Stepped.TheVariants as answer
-use Rattle.run_model.specs.Held.{IsOpened, IsPlain, Tells, TellsFrame, held, held_coming, held_environment, held_frame, held_frames, held_items, unnoted}
-use Rattle.run_model.specs.Machine.{Item, Do, bare_leaves, opening, step, Frame, State, Environment, Effect, FrameStep, Ended, Fails, Goes, Moved, Blocked, Done, act, begun, cells_seen, environment_of, frame_of, frame_step, go_frames, item_step, next_body, settle, step_frames, with_effect, writes_of_frame}
+use Rattle.run_model.specs.Held.{IsOpened, IsPlain, do_of, next_do, Tells, TellsFrame, held, held_coming, held_environment, held_frame, held_frames, held_left}
+use Rattle.run_model.specs.Machine.{Remaining, Do, Again, push, goes_to, bare_leaves, step, Frame, State, Environment, Acted, Does, FrameStep, Ended, Fails, Goes, Moved, Blocked, Done, act, begun, cells_seen, frame_step, go_frames, next_step, next_body, step_frames, with_effect, writes_of_frame, plain_step, plain_settle, plain_environment, plain_opening, plain_frame, unnoted}
 use Rattle.std.specs.Vec.{with_item}
 use Rattle.std.proofs.Math.Seq.{map-set_same}
 use Rattle.std.proofs.lemmas.List.{get_or-map, get_or-set_same, map-set}
 use Rattle.run_model.proofs.Lists.{held_more, push_plain, split_last}
 
 -- a step of a frame is its next statement's effect
-pub step_is : (p : Program) (library : List (List (Option ℤ))) (f : HeldFrame) (front : List StmtNo) (s : StmtNo) → f.rest.items ≡ front ++ s ∷ [] → IsPlain (code_of p.exprs p.stmts s)
-    → (o : Option Effect) → o ≡ act (cells_seen p library f.own.items) (code_of p.exprs p.stmts s) (held_items p front [])
+pub step_is : (p : Program) (library : List (List (Option ℤ))) (f : HeldFrame) (front : List Rest) (s : StmtNo) → f.rest.items ≡ front ++ rest.Do s ∷ [] → IsPlain (code_of p.exprs p.stmts s)
+    → (o : Acted) → o ≡ act (cells_seen p library f.own.items) (code_of p.exprs p.stmts s) (held_left p front [])
     → frame_step p library (held_frame p f) ≡ with_effect p library (held_frame p f) o
 step_is p library f front s e plain o is =
-    let left : held_items p f.rest.items [] ≡ Do (code_of p.exprs p.stmts s) ∷ held_items p front [] =
-    ap (λ r. held_items p r []) e ∙ (held_more p front s [] ∙ push_plain (code_of p.exprs p.stmts s) (held_items p front []) plain) in
-    ap (item_step p library (held_frame p f)) left ∙ ap (with_effect p library (held_frame p f)) (sym is)
+    let left : held_left p f.rest.items [] ≡ Do (code_of p.exprs p.stmts s) ∷ held_left p front [] =
+    ap (λ r. held_left p r []) e ∙ (held_more p front (rest.Do s) [] ∙ push_plain (code_of p.exprs p.stmts s) (held_left p front []) plain) in
+    ap (next_step p library (held_frame p f)) left ∙ ap (with_effect p library (held_frame p f)) (sym is)
 
-abbrev frame_with : ℕ → List Item → List (List (Option ℤ)) → Frame (Unit {0})
+-- a step of a frame whose next is a loop of which a round was begun
+pub again_is : (p : Program) (library : List (List (Option ℤ))) (f : HeldFrame) (front : List Rest) (s : StmtNo) → f.rest.items ≡ front ++ rest.Again s ∷ []
+    → frame_step p library (held_frame p f) ≡ with_effect p library (held_frame p f) (Does (goes_to (push (code_of p.exprs p.stmts s) (Again (code_of p.exprs p.stmts s) ∷ held_left p front []))))
+again_is p library f front s e =
+    ap (next_step p library (held_frame p f)) (ap (λ r. held_left p r []) e ∙ held_more p front (rest.Again s) [])
+
+abbrev frame_with : ℕ → List Remaining → List (List (Option ℤ)) → Frame (Unit {0})
 frame_with b left own = record { body = b; left = left; own = own; note = tt }
 
 abbrev main_of : Program → Option BodyNo → Environment (Unit {0})
-main_of p m = record { coming = None; frames = settle (Unit {0}) p tt unnoted (map (λ (b : BodyNo). frame_of (Unit {0}) p tt unnoted b.0) (option_to_list m)) }
+main_of p m = record { coming = None; frames = plain_settle p (map (λ (b : BodyNo). plain_frame p b.0) (option_to_list m)) }
 
 abbrev together : List (List (Option ℤ)) → Environment (Unit {0}) → List (List (Frame (Unit {0}))) → State (Unit {0})
 together cells e tasks = record { cells = cells; coming = e.coming; environment = e.frames; tasks = tasks }
@@ -50,7 +58,7 @@ held_by p s t cells e tasks =
     ∙ ap (λ ts. together t.cells.items (held_environment p t) ts) tasks)
 
 begun_is : (p : Program) (later : List ℕ) (fs : List (Frame (Unit {0})))
-    → environment_of (Unit {0}) p tt unnoted (Some later) fs ≡ begun (Unit {0}) p tt unnoted fs later (next_body (Unit {0}) p tt unnoted later)
+    → plain_environment p (Some later) fs ≡ begun (Unit {0}) p tt unnoted fs later (next_body (Unit {0}) p tt unnoted later)
 begun_is p later [] = refl
 begun_is p later (f ∷ fs) = refl
 
@@ -63,89 +71,89 @@ order_next order n b h =
 
 -- a frame in which nothing remains is taken away
 gone : (p : Program) (f : HeldFrame) → f.rest.items ≡ [] → held_frames p f ≡ []
-gone p f over = ap (λ r. settle (Unit {0}) p tt unnoted (record { body = f.body.0; left = held_items p r []; own = f.own.items; note = tt } ∷ [])) over
+gone p f over = ap (λ r. plain_settle p (record { body = f.body.0; left = held_left p r []; own = f.own.items; note = tt } ∷ [])) over
 
 -- the next elaboration has begun
-pub begins_next : (p : Program) (n : ℕ) (b : BodyNo) (f g : HeldFrame) → f.rest.items ≡ [] → slice_get p.order n ≡ Some b → held_frame p g ≡ frame_of (Unit {0}) p tt unnoted b.0
-    → environment_of (Unit {0}) p tt unnoted (Some (map (λ (x : BodyNo). x.0) (drop (n + 1) p.order))) (held_frames p g)
-    ≡ environment_of (Unit {0}) p tt unnoted (Some (map (λ (x : BodyNo). x.0) (drop n p.order))) (held_frames p f)
+pub begins_next : (p : Program) (n : ℕ) (b : BodyNo) (f g : HeldFrame) → f.rest.items ≡ [] → slice_get p.order n ≡ Some b → held_frame p g ≡ plain_frame p b.0
+    → plain_environment p (Some (map (λ (x : BodyNo). x.0) (drop (n + 1) p.order))) (held_frames p g)
+    ≡ plain_environment p (Some (map (λ (x : BodyNo). x.0) (drop n p.order))) (held_frames p f)
 begins_next p n b f g over h is =
     let later = map (λ (x : BodyNo). x.0) (drop (n + 1) p.order) in
-    ap (λ fr. environment_of (Unit {0}) p tt unnoted (Some later) (settle (Unit {0}) p tt unnoted (fr ∷ []))) is
-    ∙ (begun_is p later (settle (Unit {0}) p tt unnoted (frame_of (Unit {0}) p tt unnoted b.0 ∷ []))
+    ap (λ fr. plain_environment p (Some later) (plain_settle p (fr ∷ []))) is
+    ∙ (begun_is p later (plain_settle p (plain_frame p b.0 ∷ []))
     ∙ (sym (ap (next_body (Unit {0}) p tt unnoted) (order_next p.order n b h))
-    ∙ sym (ap (environment_of (Unit {0}) p tt unnoted (Some (map (λ (x : BodyNo). x.0) (drop n p.order)))) (gone p f over))))
+    ∙ sym (ap (plain_environment p (Some (map (λ (x : BodyNo). x.0) (drop n p.order)))) (gone p f over))))
 
 none_later : (p : Program) (n : ℕ) → length p.order ≤ n → map (λ (x : BodyNo). x.0) (drop n p.order) ≡ []
 none_later p n h = ap (map (λ (x : BodyNo). x.0)) (drop_of_length-le p.order h)
 
 -- the elaborations are over, and the main has begun
-pub begins_main : (p : Program) (n : ℕ) (b : BodyNo) (f g : HeldFrame) → f.rest.items ≡ [] → length p.order ≤ n → p.main ≡ Some b → held_frame p g ≡ frame_of (Unit {0}) p tt unnoted b.0
-    → environment_of (Unit {0}) p tt unnoted None (held_frames p g) ≡ environment_of (Unit {0}) p tt unnoted (Some (map (λ (x : BodyNo). x.0) (drop n p.order))) (held_frames p f)
+pub begins_main : (p : Program) (n : ℕ) (b : BodyNo) (f g : HeldFrame) → f.rest.items ≡ [] → length p.order ≤ n → p.main ≡ Some b → held_frame p g ≡ plain_frame p b.0
+    → plain_environment p None (held_frames p g) ≡ plain_environment p (Some (map (λ (x : BodyNo). x.0) (drop n p.order))) (held_frames p f)
 begins_main p n b f g over h main is =
-    ap (λ fr. environment_of (Unit {0}) p tt unnoted None (settle (Unit {0}) p tt unnoted (fr ∷ []))) is
+    ap (λ fr. plain_environment p None (plain_settle p (fr ∷ []))) is
     ∙ (sym (ap (λ m. main_of p m) main)
     ∙ (sym (ap (next_body (Unit {0}) p tt unnoted) (none_later p n h))
-    ∙ sym (ap (environment_of (Unit {0}) p tt unnoted (Some (map (λ (x : BodyNo). x.0) (drop n p.order)))) (gone p f over))))
+    ∙ sym (ap (plain_environment p (Some (map (λ (x : BodyNo). x.0) (drop n p.order)))) (gone p f over))))
 
 -- there is no main
 pub begins_none : (p : Program) (n : ℕ) (f : HeldFrame) → f.rest.items ≡ [] → length p.order ≤ n → p.main ≡ None
-    → environment_of (Unit {0}) p tt unnoted None (held_frames p f) ≡ environment_of (Unit {0}) p tt unnoted (Some (map (λ (x : BodyNo). x.0) (drop n p.order))) (held_frames p f)
+    → plain_environment p None (held_frames p f) ≡ plain_environment p (Some (map (λ (x : BodyNo). x.0) (drop n p.order))) (held_frames p f)
 begins_none p n f over h main =
-    ap (environment_of (Unit {0}) p tt unnoted None) (gone p f over)
+    ap (plain_environment p None) (gone p f over)
     ∙ (sym (ap (λ m. main_of p m) main)
     ∙ (sym (ap (next_body (Unit {0}) p tt unnoted) (none_later p n h))
-    ∙ sym (ap (environment_of (Unit {0}) p tt unnoted (Some (map (λ (x : BodyNo). x.0) (drop n p.order)))) (gone p f over))))
+    ∙ sym (ap (plain_environment p (Some (map (λ (x : BodyNo). x.0) (drop n p.order)))) (gone p f over))))
 
 -- what remains of a frame decides what it holds
-pub rest_same : (p : Program) (f g : HeldFrame) → g.body ≡ f.body → g.own ≡ f.own → held_items p g.rest.items [] ≡ held_items p f.rest.items [] → held_frame p g ≡ held_frame p f
+pub rest_same : (p : Program) (f g : HeldFrame) → g.body ≡ f.body → g.own ≡ f.own → held_left p g.rest.items [] ≡ held_left p f.rest.items [] → held_frame p g ≡ held_frame p f
 rest_same p f g body own left =
-    ap (λ (b : BodyNo). frame_with b.0 (held_items p g.rest.items []) g.own.items) body
-    ∙ (ap (λ l. frame_with f.body.0 l g.own.items) left ∙ ap (λ (o : Vec (Items (Option ℤ)) Global). frame_with f.body.0 (held_items p f.rest.items []) o.items) own)
+    ap (λ (b : BodyNo). frame_with b.0 (held_left p g.rest.items []) g.own.items) body
+    ∙ (ap (λ l. frame_with f.body.0 l g.own.items) left ∙ ap (λ (o : Vec (Items (Option ℤ)) Global). frame_with f.body.0 (held_left p f.rest.items []) o.items) own)
 
 -- what the environment's frame holds decides what the state holds
 pub environment_same : (p : Program) (s : HeldState) (f : HeldFrame) → held_frame p f ≡ held_frame p s.environment
     → held p (record { cells = s.cells; elaborating = s.elaborating; next = s.next; environment = f; tasks = s.tasks }) ≡ held p s
 environment_same p s f e =
     held_by p (record { cells = s.cells; elaborating = s.elaborating; next = s.next; environment = f; tasks = s.tasks }) s refl
-    (ap (λ fr. environment_of (Unit {0}) p tt unnoted (cond s.elaborating (Some (map (λ (x : BodyNo). x.0) (drop s.next p.order))) None) (settle (Unit {0}) p tt unnoted (fr ∷ []))) e) refl
+    (ap (λ fr. plain_environment p (cond s.elaborating (Some (map (λ (x : BodyNo). x.0) (drop s.next p.order))) None) (plain_settle p (fr ∷ []))) e) refl
 
 -- the state before the first step
 pub opening_is : (p : Program) (s : HeldState) → s.cells.items ≡ bare_leaves p.leaves → s.elaborating ≡ true → s.next ≡ 0 → s.environment.rest.items ≡ []
-    → map (held_frames p) s.tasks.items ≡ (opening (Unit {0}) p tt unnoted).tasks → held p s ≡ opening (Unit {0}) p tt unnoted
+    → map (held_frames p) s.tasks.items ≡ (plain_opening p).tasks → held p s ≡ plain_opening p
 unfolding held
 opening_is p s cells elaborating next over tasks =
     let first = next_body (Unit {0}) p tt unnoted (map (λ (x : BodyNo). x.0) p.order) in
     let e : held_environment p s ≡ first =
-    ap (λ b. environment_of (Unit {0}) p tt unnoted (cond b (Some (map (λ (x : BodyNo). x.0) (drop s.next p.order))) None) (held_frames p s.environment)) elaborating
-    ∙ (ap (λ n. environment_of (Unit {0}) p tt unnoted (Some (map (λ (x : BodyNo). x.0) (drop n p.order))) (held_frames p s.environment)) next
-    ∙ ap (environment_of (Unit {0}) p tt unnoted (Some (map (λ (x : BodyNo). x.0) p.order))) (gone p s.environment over)) in
+    ap (λ b. plain_environment p (cond b (Some (map (λ (x : BodyNo). x.0) (drop s.next p.order))) None) (held_frames p s.environment)) elaborating
+    ∙ (ap (λ n. plain_environment p (Some (map (λ (x : BodyNo). x.0) (drop n p.order))) (held_frames p s.environment)) next
+    ∙ ap (plain_environment p (Some (map (λ (x : BodyNo). x.0) p.order))) (gone p s.environment over)) in
     ap (λ c. together c (held_environment p s) (map (held_frames p) s.tasks.items)) cells
     ∙ (ap (λ x. together (bare_leaves p.leaves) x (map (held_frames p) s.tasks.items)) e
     ∙ ap (λ ts. together (bare_leaves p.leaves) first ts) tasks)
 
 -- a frame with something to do runs
-runs : (p : Program) (coming : Option (List ℕ)) (f : HeldFrame) (i : Item) (k : List Item) → held_items p f.rest.items [] ≡ i ∷ k
-    → environment_of (Unit {0}) p tt unnoted coming (held_frames p f) ≡ record { coming = coming; frames = held_frame p f ∷ [] }
+runs : (p : Program) (coming : Option (List ℕ)) (f : HeldFrame) (i : Remaining) (k : List Remaining) → held_left p f.rest.items [] ≡ i ∷ k
+    → plain_environment p coming (held_frames p f) ≡ record { coming = coming; frames = held_frame p f ∷ [] }
 runs p coming f i k e = settled ∙ cases coming
   where
-    settled : environment_of (Unit {0}) p tt unnoted coming (held_frames p f) ≡ environment_of (Unit {0}) p tt unnoted coming (held_frame p f ∷ [])
-    settled = ap (λ l. environment_of (Unit {0}) p tt unnoted coming (settle (Unit {0}) p tt unnoted (frame_with f.body.0 l f.own.items ∷ []))) e
-        ∙ sym (ap (λ l. environment_of (Unit {0}) p tt unnoted coming (frame_with f.body.0 l f.own.items ∷ [])) e)
+    settled : plain_environment p coming (held_frames p f) ≡ plain_environment p coming (held_frame p f ∷ [])
+    settled = ap (λ l. plain_environment p coming (plain_settle p (frame_with f.body.0 l f.own.items ∷ []))) e
+        ∙ sym (ap (λ l. plain_environment p coming (frame_with f.body.0 l f.own.items ∷ [])) e)
 
-    cases : (o : Option (List ℕ)) → environment_of (Unit {0}) p tt unnoted o (held_frame p f ∷ []) ≡ record { coming = o; frames = held_frame p f ∷ [] }
+    cases : (o : Option (List ℕ)) → plain_environment p o (held_frame p f ∷ []) ≡ record { coming = o; frames = held_frame p f ∷ [] }
     cases None = refl
     cases (Some later) = refl
 
 -- what a step of a frame came to says whether something was to be done
 abbrev Starts : Program → HeldFrame → Type 0
-Starts p f = (i : Item) × ((k : List Item) × (held_items p f.rest.items [] ≡ i ∷ k))
+Starts p f = (i : Remaining) × ((k : List Remaining) × (held_left p f.rest.items [] ≡ i ∷ k))
 
 starts : (p : Program) (library : List (List (Option ℤ))) (f : HeldFrame) (came : FrameStep (Unit {0})) → (Ended ≡ came → ⊥) → frame_step p library (held_frame p f) ≡ came → Starts p f
-starts p library f came other is = cases (held_items p f.rest.items []) refl
+starts p library f came other is = cases (held_left p f.rest.items []) refl
   where
-    cases : (l : List Item) → held_items p f.rest.items [] ≡ l → Starts p f
-    cases [] e = absurd (other (sym (ap (item_step p library (held_frame p f)) e) ∙ is))
+    cases : (l : List Remaining) → held_left p f.rest.items [] ≡ l → Starts p f
+    cases [] e = absurd (other (sym (ap (next_step p library (held_frame p f)) e) ∙ is))
     cases (i ∷ k) e = (i, (k, e))
 
 -- The step of a task, by that of its frame
@@ -153,22 +161,25 @@ starts p library f came other is = cases (held_items p f.rest.items []) refl
 abbrev after_environment : HeldState → Vec (Items (Option ℤ)) Global → HeldFrame → HeldState
 after_environment s library f = record { cells = library; elaborating = s.elaborating; next = s.next; environment = f; tasks = s.tasks }
 
+pub environment_held : (p : Program) (s : HeldState) (library : Vec (Items (Option ℤ)) Global) (f : HeldFrame) → library.items ≡ s.cells.items → held_frame p f ≡ held_frame p s.environment → held p (after_environment s library f) ≡ held p s
+environment_held p s library f l e = held_by p (after_environment s library f) s l (ap (λ fr. plain_environment p (held_coming p s) (plain_settle p (fr ∷ []))) e) refl
+
 pub environment_unchanged : (p : Program) (s : HeldState) (library : Vec (Items (Option ℤ)) Global) (f : HeldFrame) → library.items ≡ s.cells.items → f ≡ s.environment → held p (after_environment s library f) ≡ held p s
-environment_unchanged p s library f l e = held_by p (after_environment s library f) s l (ap (λ g. environment_of (Unit {0}) p tt unnoted (held_coming p s) (held_frames p g)) e) refl
+environment_unchanged p s library f l e = held_by p (after_environment s library f) s l (ap (λ g. plain_environment p (held_coming p s) (held_frames p g)) e) refl
 
 pub told_environment : (p : Program) (s : HeldState) (library : Vec (Items (Option ℤ)) Global) (f : HeldFrame) (word : ℕ) (came : Answer)
     → (s.elaborating ≡ true → s.environment.rest.items ≡ [] → ⊥)
     → TellsFrame p s.cells.items s.environment f library.items came (frame_step p s.cells.items (held_frame p s.environment))
-    → Tells p s (after_environment s library f) came (step (Unit {0}) p tt unnoted (held p s) 0 word)
+    → Tells p s (after_environment s library f) came (plain_step p (held p s) 0 word)
 unfolding held
 told_environment p s library f word answer.Moved begun told =
     let st = starts p s.cells.items s.environment (Goes library.items (held_frame p f)) (λ e. cc) told in
-    ap (λ x. step (Unit {0}) p tt unnoted (together s.cells.items x (map (held_frames p) s.tasks.items)) 0 word) (runs p (held_coming p s) s.environment st.0 st.1.0 st.1.1)
+    ap (λ x. plain_step p (together s.cells.items x (map (held_frames p) s.tasks.items)) 0 word) (runs p (held_coming p s) s.environment st.0 st.1.0 st.1.1)
     ∙ ap (go_frames (Unit {0}) p tt unnoted (together s.cells.items (record { coming = held_coming p s; frames = held_frame p s.environment ∷ [] }) (map (held_frames p) s.tasks.items)) 0 (writes_of_frame p s.cells.items (held_frame p s.environment)) []) told
 told_environment p s library f word answer.Blocked begun told = absurd told
 told_environment p s library f word answer.Failed begun told =
     let st = starts p s.cells.items s.environment Fails (λ e. cc) told.0 in (
-      ap (λ x. step (Unit {0}) p tt unnoted (together s.cells.items x (map (held_frames p) s.tasks.items)) 0 word) (runs p (held_coming p s) s.environment st.0 st.1.0 st.1.1)
+      ap (λ x. plain_step p (together s.cells.items x (map (held_frames p) s.tasks.items)) 0 word) (runs p (held_coming p s) s.environment st.0 st.1.0 st.1.1)
           ∙ ap (go_frames (Unit {0}) p tt unnoted (together s.cells.items (record { coming = held_coming p s; frames = held_frame p s.environment ∷ [] }) (map (held_frames p) s.tasks.items)) 0 (writes_of_frame p s.cells.items (held_frame p s.environment)) []) told.0,
       environment_unchanged p s library f told.1 told.2,
     )
@@ -177,11 +188,11 @@ told_environment p s library f word answer.Done begun told = (
   environment_unchanged p s library f told.1 told.2,
 )
   where
-    cases : (b : Bool) → s.elaborating ≡ b → step (Unit {0}) p tt unnoted (together s.cells.items (environment_of (Unit {0}) p tt unnoted (held_coming p s) (held_frames p s.environment)) (map (held_frames p) s.tasks.items)) 0 word ≡ Done
+    cases : (b : Bool) → s.elaborating ≡ b → plain_step p (together s.cells.items (plain_environment p (held_coming p s) (held_frames p s.environment)) (map (held_frames p) s.tasks.items)) 0 word ≡ Done
     cases true e = absurd (begun e told.3)
     cases false e =
-        ap (λ fs. step (Unit {0}) p tt unnoted (together s.cells.items (environment_of (Unit {0}) p tt unnoted (held_coming p s) fs) (map (held_frames p) s.tasks.items)) 0 word) (gone p s.environment told.3)
-        ∙ ap (λ b. step (Unit {0}) p tt unnoted (together s.cells.items (environment_of (Unit {0}) p tt unnoted (cond b (Some (map (λ (x : BodyNo). x.0) (drop s.next p.order))) None) []) (map (held_frames p) s.tasks.items)) 0 word) e
+        ap (λ fs. plain_step p (together s.cells.items (plain_environment p (held_coming p s) fs) (map (held_frames p) s.tasks.items)) 0 word) (gone p s.environment told.3)
+        ∙ ap (λ b. plain_step p (together s.cells.items (plain_environment p (cond b (Some (map (λ (x : BodyNo). x.0) (drop s.next p.order))) None) []) (map (held_frames p) s.tasks.items)) 0 word) e
 
 -- another task, once the elaborations are over
 
@@ -190,11 +201,11 @@ over_with p s cells tasks = record { cells = cells; coming = None; environment =
 
 over_is : (p : Program) (s : HeldState) → s.elaborating ≡ false → held p s ≡ over_with p s s.cells.items (map (held_frames p) s.tasks.items)
 unfolding held
-over_is p s e = ap (λ b. together s.cells.items (environment_of (Unit {0}) p tt unnoted (cond b (Some (map (λ (x : BodyNo). x.0) (drop s.next p.order))) None) (held_frames p s.environment)) (map (held_frames p) s.tasks.items)) e
+over_is p s e = ap (λ b. together s.cells.items (plain_environment p (cond b (Some (map (λ (x : BodyNo). x.0) (drop s.next p.order))) None) (held_frames p s.environment)) (map (held_frames p) s.tasks.items)) e
 
-settled_is : (p : Program) (f : HeldFrame) (i : Item) (k : List Item) → held_items p f.rest.items [] ≡ i ∷ k → held_frames p f ≡ held_frame p f ∷ []
+settled_is : (p : Program) (f : HeldFrame) (i : Remaining) (k : List Remaining) → held_left p f.rest.items [] ≡ i ∷ k → held_frames p f ≡ held_frame p f ∷ []
 settled_is p f i k e =
-    ap (λ l. settle (Unit {0}) p tt unnoted (frame_with f.body.0 l f.own.items ∷ [])) e
+    ap (λ l. plain_settle p (frame_with f.body.0 l f.own.items ∷ [])) e
     ∙ sym (ap (λ l. frame_with f.body.0 l f.own.items ∷ []) e)
 
 task_seen : (p : Program) (s : HeldState) (at : ℕ) (old : HeldFrame) → slice_get s.tasks.items at ≡ Some old → slice_index_or (map (held_frames p) s.tasks.items) at [] ≡ held_frames p old
@@ -205,7 +216,7 @@ after_task s library at f = record { cells = library; elaborating = s.elaboratin
 
 task_same : (p : Program) (s : HeldState) (at : ℕ) (old f : HeldFrame) → slice_get s.tasks.items at ≡ Some old → held_frame p f ≡ held_frame p old → map (held_frames p) (set s.tasks.items at f) ≡ map (held_frames p) s.tasks.items
 task_same p s at old f h e = map-set_same (held_frames p) s.tasks.items at f old
-    (ap (λ fr. settle (Unit {0}) p tt unnoted (fr ∷ [])) e ∙ sym (ap (held_frames p) (get_or_from_slice_get s.tasks.items at old old h)))
+    (ap (λ fr. plain_settle p (fr ∷ [])) e ∙ sym (ap (held_frames p) (get_or_from_slice_get s.tasks.items at old old h)))
 
 -- a task's frame decides what the state holds
 pub with_task : (p : Program) (s : HeldState) (library : Vec (Items (Option ℤ)) Global) (at : ℕ) (old f : HeldFrame) → slice_get s.tasks.items at ≡ Some old → library.items ≡ s.cells.items → held_frame p f ≡ held_frame p old → held p (after_task s library at f) ≡ held p s
@@ -214,12 +225,12 @@ with_task p s library at old f h l e = held_by p (after_task s library at f) s l
 pub told_task : (p : Program) (s : HeldState) (library : Vec (Items (Option ℤ)) Global) (at : ℕ) (old f : HeldFrame) (word : ℕ) (came : Answer)
     → s.elaborating ≡ false → slice_get s.tasks.items at ≡ Some old
     → TellsFrame p s.cells.items old f library.items came (frame_step p s.cells.items (held_frame p old))
-    → Tells p s (after_task s library at f) came (step (Unit {0}) p tt unnoted (held p s) (suc at) word)
+    → Tells p s (after_task s library at f) came (plain_step p (held p s) (suc at) word)
 told_task p s library at old f word answer.Moved over h told =
     let st = starts p s.cells.items old (Goes library.items (held_frame p f)) (λ e. cc) told in
     let now = over_with p s s.cells.items (map (held_frames p) s.tasks.items) in
     let tasks : map (held_frames p) (set s.tasks.items at f) ≡ set (map (held_frames p) s.tasks.items) at (held_frames p f) = map-set (held_frames p) s.tasks.items at f in
-    ap (λ x. step (Unit {0}) p tt unnoted x (suc at) word) (over_is p s over)
+    ap (λ x. plain_step p x (suc at) word) (over_is p s over)
     ∙ (ap (step_frames (Unit {0}) p tt unnoted now (suc at)) (task_seen p s at old h ∙ settled_is p old st.0 st.1.0 st.1.1)
     ∙ (ap (go_frames (Unit {0}) p tt unnoted now (suc at) (writes_of_frame p s.cells.items (held_frame p old)) []) told
     ∙ (sym (ap (λ ts. Moved (over_with p s library.items ts)) tasks)
@@ -228,47 +239,53 @@ told_task p s library at old f word answer.Blocked over h told = absurd told
 told_task p s library at old f word answer.Failed over h told =
     let st = starts p s.cells.items old Fails (λ e. cc) told.0 in
     let now = over_with p s s.cells.items (map (held_frames p) s.tasks.items) in (
-      ap (λ x. step (Unit {0}) p tt unnoted x (suc at) word) (over_is p s over)
+      ap (λ x. plain_step p x (suc at) word) (over_is p s over)
           ∙ (ap (step_frames (Unit {0}) p tt unnoted now (suc at)) (task_seen p s at old h ∙ settled_is p old st.0 st.1.0 st.1.1)
           ∙ ap (go_frames (Unit {0}) p tt unnoted now (suc at) (writes_of_frame p s.cells.items (held_frame p old)) []) told.0),
       with_task p s library at old f h told.1 (ap (held_frame p) told.2),
     )
 told_task p s library at old f word answer.Done over h told =
     let now = over_with p s s.cells.items (map (held_frames p) s.tasks.items) in (
-      ap (λ x. step (Unit {0}) p tt unnoted x (suc at) word) (over_is p s over)
+      ap (λ x. plain_step p x (suc at) word) (over_is p s over)
           ∙ ap (step_frames (Unit {0}) p tt unnoted now (suc at)) (task_seen p s at old h ∙ gone p old told.3),
       with_task p s library at old f h told.1 (ap (held_frame p) told.2),
     )
 
 -- the answer, over another state that holds the same
 pub tells_from : (p : Program) (s t new : HeldState) (task word : ℕ) (came : Answer) → held p t ≡ held p s
-    → Tells p t new came (step (Unit {0}) p tt unnoted (held p t) task word) → Tells p s new came (step (Unit {0}) p tt unnoted (held p s) task word)
-tells_from p s t new task word answer.Moved e h = sym (ap (λ x. step (Unit {0}) p tt unnoted x task word) e) ∙ h
-tells_from p s t new task word answer.Blocked e h = (sym (ap (λ x. step (Unit {0}) p tt unnoted x task word) e) ∙ h.0, h.1 ∙ e)
-tells_from p s t new task word answer.Failed e h = (sym (ap (λ x. step (Unit {0}) p tt unnoted x task word) e) ∙ h.0, h.1 ∙ e)
-tells_from p s t new task word answer.Done e h = (sym (ap (λ x. step (Unit {0}) p tt unnoted x task word) e) ∙ h.0, h.1 ∙ e)
+    → Tells p t new came (plain_step p (held p t) task word) → Tells p s new came (plain_step p (held p s) task word)
+tells_from p s t new task word answer.Moved e h = sym (ap (λ x. plain_step p x task word) e) ∙ h
+tells_from p s t new task word answer.Blocked e h = (sym (ap (λ x. plain_step p x task word) e) ∙ h.0, h.1 ∙ e)
+tells_from p s t new task word answer.Failed e h = (sym (ap (λ x. plain_step p x task word) e) ∙ h.0, h.1 ∙ e)
+tells_from p s t new task word answer.Done e h = (sym (ap (λ x. plain_step p x task word) e) ∙ h.0, h.1 ∙ e)
 
 -- where something remains and the next statement is no sequence, something is to be done
 opened_starts : (p : Program) (f : HeldFrame) → IsOpened p f.rest.items → (f.rest.items ≡ [] → ⊥) → Starts p f
 opened_starts p f opened some = cases f.rest.items refl
   where
-    cases : (items : List StmtNo) → f.rest.items ≡ items → Starts p f
+    cases : (items : List Rest) → f.rest.items ≡ items → Starts p f
     cases [] e = absurd (some e)
     cases (x ∷ xs) e =
         let last = get_or (x ∷ xs) (length (x ∷ xs) - 1) x in
         let got = slice_get-get_or (x ∷ xs) (length (x ∷ xs) - 1) x (omega arith) in
-        let split = split_last (x ∷ xs) last got in
-        let front = take (length (x ∷ xs) - 1) (x ∷ xs) in
-        let plain : IsPlain (code_of p.exprs p.stmts last) = opened last (rw e got) in
-        (Do (code_of p.exprs p.stmts last), (held_items p front [], ap (λ r. held_items p r []) (e ∙ split) ∙ (held_more p front last [] ∙ push_plain (code_of p.exprs p.stmts last) (held_items p front []) plain)))
+        kinds last got (e ∙ split_last (x ∷ xs) last got)
+      where
+        kinds : (r : Rest) → slice_get (x ∷ xs) (length (x ∷ xs) - 1) ≡ Some r → f.rest.items ≡ take (length (x ∷ xs) - 1) (x ∷ xs) ++ r ∷ [] → Starts p f
+        kinds (rest.Do s) got split =
+            let front = take (length (x ∷ xs) - 1) (x ∷ xs) in
+            let plain : IsPlain (code_of p.exprs p.stmts s) = opened s (ap next_do e ∙ ap do_of got) in
+            (Do (code_of p.exprs p.stmts s), (held_left p front [], ap (λ r. held_left p r []) split ∙ (held_more p front (rest.Do s) [] ∙ push_plain (code_of p.exprs p.stmts s) (held_left p front []) plain)))
+        kinds (rest.Again s) got split =
+            let front = take (length (x ∷ xs) - 1) (x ∷ xs) in
+            (Again (code_of p.exprs p.stmts s), (held_left p front [], ap (λ r. held_left p r []) split ∙ held_more p front (rest.Again s) []))
 
 pub blocked : (p : Program) (s : HeldState) (at word : ℕ) → s.elaborating ≡ true → IsOpened p s.environment.rest.items → (s.environment.rest.items ≡ [] → ⊥)
-    → step (Unit {0}) p tt unnoted (held p s) (suc at) word ≡ Blocked
+    → plain_step p (held p s) (suc at) word ≡ Blocked
 unfolding held
 blocked p s at word e opened some =
     let st = opened_starts p s.environment opened some in
-    ap (λ x. step (Unit {0}) p tt unnoted (together s.cells.items x (map (held_frames p) s.tasks.items)) (suc at) word) (runs p (held_coming p s) s.environment st.0 st.1.0 st.1.1)
-    ∙ ap (λ b. step (Unit {0}) p tt unnoted (together s.cells.items (record { coming = cond b (Some (map (λ (x : BodyNo). x.0) (drop s.next p.order))) None; frames = held_frame p s.environment ∷ [] }) (map (held_frames p) s.tasks.items)) (suc at) word) e
+    ap (λ x. plain_step p (together s.cells.items x (map (held_frames p) s.tasks.items)) (suc at) word) (runs p (held_coming p s) s.environment st.0 st.1.0 st.1.1)
+    ∙ ap (λ b. plain_step p (together s.cells.items (record { coming = cond b (Some (map (λ (x : BodyNo). x.0) (drop s.next p.order))) None; frames = held_frame p s.environment ∷ [] }) (map (held_frames p) s.tasks.items)) (suc at) word) e
 
 -- the frame that was put there is the task's
 pub put_opened : (p : Program) (tasks : List HeldFrame) (at : ℕ) (new f : HeldFrame) → at < length tasks → IsOpened p new.rest.items → slice_get (set tasks at new) at ≡ Some f → IsOpened p f.rest.items

@@ -1,6 +1,6 @@
 -- Lists of cells, and of the statements that remain.
 use Rattle.std.proofs.Common.{◌≡◌, ℕ, zero, suc, ◌+◌, ◌-◌, ◌<◌, Bool, true, false, cond, List, [], ◌∷◌, ◌++◌, length, get_or, set, take, drop, Option, Some, None, refl, sym, ap, ◌∙◌, arith, add-one, length-append, ℤ}
-use Rattle.std.specs.Prelude.{slice_get, slice_index_or, IsSome, All}
+use Rattle.std.specs.Prelude.{slice_get, slice_index_or, IsSome, IsTrue, All}
 use Rattle.std.specs.Option.{option_to_list}
 use Rattle.core_form.proofs.Grown.{slice_get-last}
 use Rattle.std.proofs.lemmas.List.{length-replicate, length-map}
@@ -9,13 +9,15 @@ use Rattle.std.proofs.Math.ListN.{length-set}
 use Rattle.spark_base.specs.declared.numbers.StmtNo.{StmtNo}
 use Rattle.spark_base.specs.declared.numbers.ExprNo.{ExprNo}
 use Rattle.core_form.specs.declared.code.CoreStmt.{CoreStmt}
-use Rattle.core_form.specs.Code.{Expr, Code, Skip, Then, Assign, Clear, Branch, Repeat, Exit, Called, Guard, Delay, ReadClock, Stop, code_of, code_at, codes_at}
+use Rattle.core_form.specs.Code.{Expr, Leaves, Returns, Code, Skip, Then, Assign, Clear, Branch, Repeat, Exit, Called, Guard, Delay, ReadClock, Stop, code_of, code_at, codes_at}
 use Rattle.std.proofs.lemmas.List.Elements.{All-append}
 use Rattle.core_form.specs.Proper.{cells_of}
 use Rattle.core_form.specs.declared.program.Leaf.{Leaf}
 use Rattle.core_form.specs.declared.program.Program.{Program}
-use Rattle.run_model.specs.Held.{AreStmts, IsPlain, held_items, size, weight}
-use Rattle.run_model.specs.Machine.{Item, Do, bare, bare_leaves, cells_seen, is_library, push}
+use Rattle.run_model.specs.declared.state.Rest.{Rest}
+use Rattle.run_model.specs.declared.state.Rest.TheVariants as rest
+use Rattle.run_model.specs.Held.{AreRests, IsPlain, IsRest, do_of, held_left, held_rest, is_begun, left_after, rest_weight, size, weight, weight_of}
+use Rattle.run_model.specs.Machine.{Remaining, Do, Again, bare, bare_leaves, cells_seen, is_library, push, resume}
 use Rattle.run_model.specs.Runs.{IsSized}
 use Rattle.run_model.specs.Values.{number_in, numbers_from, written}
 
@@ -42,14 +44,14 @@ bare_length (l ∷ ls) (suc n) = bare_length ls n
 pub bare_sized : (p : Program) → IsSized p (bare_leaves p.leaves)
 bare_sized p = record { leaves = length-map p.leaves (λ (l : Leaf). bare l.cells); cells = λ n. bare_length p.leaves n }
 
--- one statement more, before those that remain
-pub held_more : (p : Program) (ss : List StmtNo) (s : StmtNo) (k : List Item) → held_items p (ss ++ s ∷ []) k ≡ push (code_of p.exprs p.stmts s) (held_items p ss k)
-held_more p [] s k = refl
-held_more p (t ∷ ss) s k = held_more p ss s (push (code_of p.exprs p.stmts t) k)
+-- one more, before those that remain
+pub held_more : (p : Program) (rs : List Rest) (r : Rest) (k : List Remaining) → held_left p (rs ++ r ∷ []) k ≡ held_rest p r (held_left p rs k)
+held_more p [] r k = refl
+held_more p (t ∷ rs) r k = held_more p rs r (held_rest p t k)
 
-pub weight_more : (p : Program) (ss : List StmtNo) (s : StmtNo) → weight p (ss ++ s ∷ []) ≡ weight p ss + size (code_of p.exprs p.stmts s)
-weight_more p [] s = omega arith
-weight_more p (t ∷ ss) s = let e = weight_more p ss s in omega arith
+pub weight_more : (p : Program) (rs : List Rest) (r : Rest) → rest_weight p (rs ++ r ∷ []) ≡ rest_weight p rs + weight_of p r
+weight_more p [] r = omega arith
+weight_more p (t ∷ rs) r = let e = weight_more p rs r in omega arith
 
 pub codes_weigh : (p : Program) (ss : List StmtNo) → weight p ss < size (codes_at (code_of p.exprs p.stmts) ss)
 codes_weigh p [] = omega arith
@@ -62,11 +64,26 @@ All-one P x i (suc k) d l = absurd (omega arith)
 pub All-more_last : {X : Type 0} (P : X → Type 0) → (xs : List X) (x : X) → All P xs → P x → All P (xs ++ x ∷ [])
 All-more_last P xs x h i = All-append P xs (x ∷ []) h (All-one P x i)
 
-pub stmts_more : (p : Program) (ss : List StmtNo) (s : StmtNo) → AreStmts p ss → s.0 < length p.stmts → AreStmts p (ss ++ s ∷ [])
-stmts_more p ss s h i = All-more_last (λ (x : StmtNo). x.0 < length p.stmts) ss s h i
+pub rests_more : (p : Program) (rs : List Rest) (r : Rest) → AreRests p rs → IsRest p r → AreRests p (rs ++ r ∷ [])
+rests_more p rs r h i = All-more_last (IsRest p) rs r h i
+
+-- leaving passes what a sequence was opened to
+pub resume_push : (a : Code) (k : List Remaining) (n : ℕ) → resume (push a k) (Leaves n) ≡ resume k (Leaves n)
+resume_push Skip k n = refl
+resume_push (Then a b) k n = resume_push a (push b k) n ∙ resume_push b k n
+resume_push (Assign to e at) k n = refl
+resume_push (Clear leaf) k n = refl
+resume_push (Branch e a b) k n = refl
+resume_push (Repeat a) k n = refl
+resume_push (Exit o) k n = refl
+resume_push (Called b actuals at) k n = refl
+resume_push (Guard o barrier c) k n = refl
+resume_push (Delay e) k n = refl
+resume_push (ReadClock to) k n = refl
+resume_push Stop k n = refl
 
 -- a statement that is no sequence, before what remains
-pub push_plain : (a : Code) (k : List Item) → IsPlain a → push a k ≡ Do a ∷ k
+pub push_plain : (a : Code) (k : List Remaining) → IsPlain a → push a k ≡ Do a ∷ k
 push_plain Skip k h = absurd h
 push_plain (Then a b) k h = absurd h
 push_plain (Assign to e at) k h = refl
@@ -129,3 +146,43 @@ seen_sized p library own leaf h k = cases (is_library p leaf)
     cases : (b : Bool) → length (cond b (slice_index_or library leaf []) (slice_index_or own leaf [])) ≡ cells_of p leaf
     cases true = h.cells leaf
     cases false = k.cells leaf
+
+-- the next statement is the last of what remains
+pub do_is : (o : Option Rest) (s : StmtNo) → do_of o ≡ Some s → o ≡ Some (rest.Do s)
+do_is None s h = let n : Option StmtNo = None in let z : n ≡ Some s = h in absurd (cc)
+do_is (Some (rest.Do t)) s h = let z : Some t ≡ Some s = h in let i : t ≡ s = cc in ap (λ (x : StmtNo). Some (rest.Do x)) i
+do_is (Some (rest.Again t)) s h = let n : Option StmtNo = None in let z : n ≡ Some s = h in absurd (cc)
+
+-- what is left behind the last of what remains
+pub left_step : (p : Program) (front : List Rest) (last : Rest) (n : ℕ) → (IsTrue (is_begun last) → n ≡ 0 → ⊥) → resume (held_left p (front ++ last ∷ []) []) (Leaves n) ≡ resume (held_left p front []) (Leaves (left_after last n))
+left_step p front (rest.Do s) n h = ap (λ k. resume k (Leaves n)) (held_more p front (rest.Do s) []) ∙ resume_push (code_of p.exprs p.stmts s) (held_left p front []) n
+left_step p front (rest.Again s) zero h = absurd (h refl refl)
+left_step p front (rest.Again s) (suc n) h = let e : suc n - 1 ≡ n = omega arith in ap (λ k. resume k (Leaves (suc n))) (held_more p front (rest.Again s) []) ∙ ap (λ m. resume (held_left p front []) (Leaves m)) (sym e)
+
+pub left_here : (p : Program) (front : List Rest) (last : Rest) → IsTrue (is_begun last) → resume (held_left p (front ++ last ∷ []) []) (Leaves zero) ≡ held_left p front []
+left_here p front (rest.Do s) h = let z : false ≡ true = h in absurd (cc)
+left_here p front (rest.Again s) h = ap (λ k. resume k (Leaves zero)) (held_more p front (rest.Again s) [])
+
+-- a return takes all away
+pub resume_back : (k : List Remaining) → resume k Returns ≡ []
+resume_back [] = refl
+resume_back (Do a ∷ k) = refl
+resume_back (Again a ∷ k) = refl
+
+-- another in the place of the last but one
+set_before : {X : Type 0} → (front : List X) (x y z : X) → set ((front ++ x ∷ []) ++ y ∷ []) (length front) z ≡ front ++ z ∷ y ∷ []
+set_before [] x y z = refl
+set_before (w ∷ ws) x y z = ap (λ l. w ∷ l) (set_before ws x y z)
+
+held_two : (p : Program) (front : List Rest) (x y : Rest) (k : List Remaining) → held_left p (front ++ x ∷ y ∷ []) k ≡ held_rest p y (held_rest p x (held_left p front k))
+held_two p [] x y k = refl
+held_two p (t ∷ rs) x y k = held_two p rs x y (held_rest p t k)
+
+-- a round begins: the loop is marked, and its body stands before it
+pub round_left : (p : Program) (items front more : List Rest) (s body : StmtNo) (n : ℕ) → items ≡ front ++ rest.Do s ∷ [] → more ≡ items ++ rest.Do body ∷ [] → n ≡ length front
+    → held_left p (set more n (rest.Again body)) [] ≡ push (code_of p.exprs p.stmts body) (Again (code_of p.exprs p.stmts body) ∷ held_left p front [])
+round_left p items front more s body n split pushed at =
+    ap (λ m. held_left p (set m n (rest.Again body)) []) (pushed ∙ ap (λ l. l ++ rest.Do body ∷ []) split)
+    ∙ (ap (λ m. held_left p (set ((front ++ rest.Do s ∷ []) ++ rest.Do body ∷ []) m (rest.Again body)) []) at
+    ∙ (ap (λ l. held_left p l []) (set_before front (rest.Do s) (rest.Do body) (rest.Again body))
+    ∙ held_two p front (rest.Again body) (rest.Do body) []))

@@ -1,42 +1,62 @@
 -- What the state of the code holds.
-use Rattle.std.specs.Prelude.{◌≡◌, ℕ, suc, ◌+◌, ◌-◌, ◌<◌, ◌≤◌, cond, All, List, [], ◌∷◌, map, drop, Option, Some, None, length, slice_get, ℤ}
+use Rattle.std.specs.Prelude.{◌≡◌, ℕ, Bool, true, false, suc, ◌+◌, ◌-◌, ◌<◌, ◌≤◌, cond, All, List, [], ◌∷◌, map, drop, Option, Some, None, length, slice_get, ℤ}
 use Rattle.spark_base.specs.declared.numbers.BodyNo.{BodyNo}
 use Rattle.spark_base.specs.declared.numbers.StmtNo.{StmtNo}
-use Rattle.core_form.specs.Code.{Code, Skip, Then, Assign, Clear, Branch, Repeat, Exit, Called, Guard, Delay, ReadClock, Stop, code_of}
+use Rattle.core_form.specs.Code.{Leaves, Returns, Code, Skip, Then, Assign, Clear, Branch, Repeat, Exit, Called, Guard, Delay, ReadClock, Stop, code_of}
 use Rattle.core_form.specs.Proper.{cells_of}
 use Rattle.core_form.specs.declared.program.Program.{Program}
 use Rattle.run_model.specs.declared.state.Frame.{Frame as HeldFrame}
+use Rattle.run_model.specs.declared.state.Rest.{Rest}
+use Rattle.run_model.specs.declared.state.Rest.TheVariants as rest
 use Rattle.run_model.specs.declared.state.State.{State as HeldState}
 use Rattle.run_model.specs.declared.effects.Effect.{Effect as HeldEffect}
 use Rattle.run_model.specs.declared.effects.Effect.TheVariants as effect
 use Rattle.run_model.specs.declared.steps.Stepped.{Stepped as Answer}
 use Rattle.run_model.specs.declared.steps.Stepped.TheVariants as answer
-use Rattle.run_model.specs.Values.{CellNo}
-use Rattle.run_model.specs.Machine.{Item, push, Frame, State, Stepped, Moved, Blocked, Failed, Done, Environment, FrameStep, Ended, Fails, Goes, Effect, goes_to, changes, settle, environment_of}
+use Rattle.run_model.specs.Machine.{Remaining, Again, push, resume, Frame, State, Stepped, Moved, Blocked, Failed, Done, Environment, FrameStep, Ended, Fails, Goes, Acted, Does, CheckFails, goes_to, changes, plain_environment, plain_settle}
 use Rattle.run_model.specs.Runs.{IsSized}
 
--- nobody notes anything
-abbrev pub unnoted : List CellNo → Unit {0} → Unit {0}
-unnoted writes note = tt
+abbrev pub held_rest : Program → Rest → List Remaining → List Remaining
+held_rest p (rest.Do s) k = push (code_of p.exprs p.stmts s) k
+held_rest p (rest.Again s) k = Again (code_of p.exprs p.stmts s) ∷ k
 
--- The frame of the code keeps its statements with the next one last; sequences are opened when they come.
-abbrev pub held_items : Program → List StmtNo → List Item → List Item
-held_items p [] k = k
-held_items p (s ∷ ss) k = held_items p ss (push (code_of p.exprs p.stmts s) k)
+-- The frame of the code keeps what remains with the next last; sequences are opened when they come.
+abbrev pub held_left : Program → List Rest → List Remaining → List Remaining
+held_left p [] k = k
+held_left p (r ∷ rs) k = held_left p rs (held_rest p r k)
+
+-- a loop of which a round was begun
+abbrev pub is_begun : Rest → Bool
+is_begun (rest.Do s) = false
+is_begun (rest.Again s) = true
+
+-- how many loops are left behind one that is not the last
+abbrev pub left_after : Rest → ℕ → ℕ
+left_after (rest.Do s) n = n
+left_after (rest.Again s) n = n - 1
+
+abbrev pub do_of : Option Rest → Option StmtNo
+do_of None = None
+do_of (Some (rest.Do s)) = Some s
+do_of (Some (rest.Again s)) = None
+
+-- the next statement, unless it is a loop of which a round was begun
+abbrev pub next_do : List Rest → Option StmtNo
+next_do rs = do_of (slice_get rs (length rs - 1))
 
 abbrev pub held_frame : Program → HeldFrame → Frame (Unit {0})
-held_frame p f = record { body = f.body.0; left = held_items p f.rest.items []; own = f.own.items; note = tt }
+held_frame p f = record { body = f.body.0; left = held_left p f.rest.items []; own = f.own.items; note = tt }
 
 -- the frames of a task
 abbrev pub held_frames : Program → HeldFrame → List (Frame (Unit {0}))
-held_frames p f = settle (Unit {0}) p tt unnoted (held_frame p f ∷ [])
+held_frames p f = plain_settle p (held_frame p f ∷ [])
 
 -- the elaborations that have yet to begin
 abbrev pub held_coming : Program → HeldState → Option (List ℕ)
 held_coming p s = cond s.elaborating (Some (map (λ (b : BodyNo). b.0) (drop s.next p.order))) None
 
 abbrev pub held_environment : Program → HeldState → Environment (Unit {0})
-held_environment p s = environment_of (Unit {0}) p tt unnoted (held_coming p s) (held_frames p s.environment)
+held_environment p s = plain_environment p (held_coming p s) (held_frames p s.environment)
 
 -- the state that the code holds
 unfoldable pub held : Program → HeldState → State (Unit {0})
@@ -48,15 +68,21 @@ held p s = record {
 }
 
 -- what the code says of the effect of a statement
-abbrev pub effect_told : Program → Option HeldEffect → List Item → Option Effect
-effect_told p None k = None
-effect_told p (Some (effect.Chosen s)) k = goes_to (push (code_of p.exprs p.stmts s) k)
-effect_told p (Some (effect.Changed leaf cells)) k = changes leaf.0 cells k
+abbrev pub effect_told : Program → Option HeldEffect → List Remaining → Acted
+effect_told p None k = CheckFails
+effect_told p (Some (effect.Chosen s)) k = Does (goes_to (push (code_of p.exprs p.stmts s) k))
+effect_told p (Some (effect.Round s)) k = Does (goes_to (push (code_of p.exprs p.stmts s) (Again (code_of p.exprs p.stmts s) ∷ k)))
+effect_told p (Some (effect.Left n)) k = Does (goes_to (resume k (Leaves n)))
+effect_told p (Some effect.Returned) k = Does (goes_to (resume k Returns))
+effect_told p (Some (effect.Changed leaf cells)) k = Does (changes leaf.0 cells k)
 
 -- it names what the program has
 abbrev pub IsHeldEffect : Program → Option HeldEffect → Type 0
 IsHeldEffect p None = Unit {0}
 IsHeldEffect p (Some (effect.Chosen s)) = s.0 < length p.stmts
+IsHeldEffect p (Some (effect.Round s)) = s.0 < length p.stmts
+IsHeldEffect p (Some (effect.Left n)) = Unit {0}
+IsHeldEffect p (Some effect.Returned) = Unit {0}
 IsHeldEffect p (Some (effect.Changed leaf cells)) = (leaf.0 < length p.leaves) × (length cells ≡ cells_of p leaf.0)
 
 -- a statement that is no sequence
@@ -75,8 +101,8 @@ IsPlain (ReadClock to) = Unit {0}
 IsPlain Stop = Unit {0}
 
 -- the next statement is no sequence
-abbrev pub IsOpened : Program → List StmtNo → Type 0
-IsOpened p rest = (s : StmtNo) → slice_get rest (length rest - 1) ≡ Some s → IsPlain (code_of p.exprs p.stmts s)
+abbrev pub IsOpened : Program → List Rest → Type 0
+IsOpened p rs = (s : StmtNo) → next_do rs ≡ Some s → IsPlain (code_of p.exprs p.stmts s)
 
 -- how much remains, sequences counted
 abbrev pub size : Code → ℕ
@@ -97,13 +123,28 @@ abbrev pub weight : Program → List StmtNo → ℕ
 weight p [] = 0
 weight p (s ∷ ss) = size (code_of p.exprs p.stmts s) + weight p ss
 
+abbrev pub weight_of : Program → Rest → ℕ
+weight_of p (rest.Do s) = size (code_of p.exprs p.stmts s)
+weight_of p (rest.Again s) = 1
+
+abbrev pub rest_weight : Program → List Rest → ℕ
+rest_weight p [] = 0
+rest_weight p (r ∷ rs) = weight_of p r + rest_weight p rs
+
 -- Numbers in range
+
+abbrev pub IsRest : Program → Rest → Type 0
+IsRest p (rest.Do s) = s.0 < length p.stmts
+IsRest p (rest.Again s) = s.0 < length p.stmts
+
+abbrev pub AreRests : Program → List Rest → Type 0
+AreRests p rs = All (IsRest p) rs
 
 abbrev pub AreStmts : Program → List StmtNo → Type 0
 AreStmts p rest = All (λ s. s.0 < length p.stmts) rest
 
 pub record IsHeldFrame (p : Program) (f : HeldFrame) : Type 0 where
-  pub rest : AreStmts p f.rest.items
+  pub rest : AreRests p f.rest.items
   pub own : IsSized p f.own.items
 
 -- a state of this program

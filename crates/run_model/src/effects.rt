@@ -3,7 +3,7 @@ ghost use Rattle.spark_base.specs.declared.numbers.Span.{Span};
 ghost use Rattle.core_form.specs.Code.{Assign, code_of, expr_of, spot_at};
 ghost use Rattle.core_form.specs.Fine.{IsWellFormed, PlaceBelow};
 ghost use Rattle.run_model.specs.Held.{IsHeldEffect, IsPlain, effect_told};
-ghost use Rattle.run_model.specs.Machine.{Item, act, cells_seen};
+ghost use Rattle.run_model.specs.Machine.{Remaining, act, cells_seen};
 ghost use Rattle.run_model.specs.Runs.{IsSized};
 
 use crate::cells::{bare, cells_seen, written};
@@ -17,6 +17,12 @@ use std::alloc::Global;
 pub enum Effect {
     /// This branch was chosen.
     Chosen(StmtNo),
+    /// A round of a loop with this body begins.
+    Round(StmtNo),
+    /// So many loops are left, and one more.
+    Left(u32),
+    /// The body returns.
+    Returned,
     /// The leaf has these cells.
     Changed(LeafNo, Items<Option<i128>>),
 }
@@ -36,7 +42,7 @@ fn move_effect(
     requires library { IsSized program.now library.now }
     requires own { IsSized program.now own.now }
     ensures held { IfOk result (IsHeldEffect program.now) }
-    ensures told { (at : Span) → IfOk result (λ e. (k : List Item) → effect_told program.now e k
+    ensures told { (at : Span) → IfOk result (λ e. (k : List Remaining) → effect_told program.now e k
         ≡ act (cells_seen program.now library.now own.now) (Assign (spot_at (expr_of program.now.exprs) to.now) (expr_of program.now.exprs from) at) k) }
 {
     let exprs = program.exprs.len() as u32;
@@ -67,7 +73,7 @@ pub fn effect_of(
     requires library { IsSized program.now library.now }
     requires own { IsSized program.now own.now }
     ensures held { IfOk result (IsHeldEffect program.now) }
-    ensures told { IfOk result (λ e. (k : List Item) → effect_told program.now e k
+    ensures told { IfOk result (λ e. (k : List Remaining) → effect_told program.now e k
         ≡ act (cells_seen program.now library.now own.now) (code_of program.now.exprs program.now.stmts s) k) }
 {
     match program.stmt(s) {
@@ -83,11 +89,11 @@ pub fn effect_of(
                 None => Ok(None),
             }
         }
+        CoreStmt::Loop(body) => Ok(Some(Effect::Round(*body))),
+        CoreStmt::Leave(loops) => Ok(Some(Effect::Left(*loops))),
+        CoreStmt::Back => Ok(Some(Effect::Returned)),
         CoreStmt::Fail => Ok(None),
         CoreStmt::Seq(_)
-        | CoreStmt::Loop(_)
-        | CoreStmt::Leave(_)
-        | CoreStmt::Back
         | CoreStmt::Call { .. }
         | CoreStmt::Guarded { .. }
         | CoreStmt::DelayUntil(_)

@@ -1,8 +1,8 @@
 ghost use Rattle.std.specs.Prelude.{◌≡◌, ◌<◌, ◌≤◌, All, [], ◌∷◌, map, length, IfOk, OnOk};
 ghost use Rattle.core_form.specs.Fine.{IsWellFormed};
 ghost use Rattle.core_form.specs.declared.program.TaskUnit.{TaskUnit};
-ghost use Rattle.run_model.specs.Held.{IsHeld, IsHeldFrame, held, held_frame, held_frames, unnoted};
-ghost use Rattle.run_model.specs.Machine.{frame_of, opening, settle};
+ghost use Rattle.run_model.specs.Held.{IsHeld, IsHeldFrame, held, held_frame, held_frames};
+ghost use Rattle.run_model.specs.Machine.{plain_settle, plain_opening, plain_frame};
 ghost use Rattle.run_model.specs.Runs.{cell_in};
 
 use crate::cells::bare_leaves;
@@ -10,12 +10,19 @@ use core_form::Program;
 use spark_base::{BodyNo, Items, LeafNo, NoMemory, StmtNo};
 use std::alloc::Global;
 
+/// What remains to be done: a statement, or a loop with this body of which a round was begun.
+#[derive(Clone, Copy)]
+pub enum Rest {
+    Do(StmtNo),
+    Again(StmtNo),
+}
+
 /// A body that runs. Nothing calls yet, so a task has one frame at most: none where no statement remains.
 #[derive(Drop)]
 pub struct Frame {
     pub body: BodyNo,
-    /// The statements that remain, the next one last.
-    pub rest: Vec<StmtNo>,
+    /// What remains, the next last.
+    pub rest: Vec<Rest>,
     /// The cells of its own leaves, each at the leaf's number.
     pub own: Vec<Items<Option<i128>>>,
 }
@@ -40,10 +47,10 @@ pub fn new_frame(alloc: Global, program: &Program, body: BodyNo) -> Result<Frame
     requires fine { IsWellFormed program.now }
     requires body { body.0 < length program.now.bodies }
     ensures held { IfOk result (λ f. IsHeldFrame program.now f) }
-    ensures frame { IfOk result (λ f. held_frame program.now f ≡ frame_of (Unit {0}) program.now tt unnoted body.0) }
+    ensures frame { IfOk result (λ f. held_frame program.now f ≡ plain_frame program.now body.0) }
 {
     let mut rest = Vec::new(alloc);
-    rest.push(program.bodies.at(body.0 as usize).code)?;
+    rest.push(Rest::Do(program.bodies.at(body.0 as usize).code))?;
     Ok(Frame {
         body,
         rest,
@@ -69,7 +76,7 @@ fn task_frames(alloc: Global, program: &Program) -> Result<Vec<Frame>, NoMemory>
     ensures held { IfOk result (λ fs. All (IsHeldFrame program.now) fs.items) }
     ensures count { IfOk result (λ fs. length fs.items ≡ length program.now.tasks) }
     ensures frames { IfOk result (λ fs. map (held_frames program.now) fs.items
-        ≡ map (λ (t : TaskUnit). settle (Unit {0}) program.now tt unnoted (frame_of (Unit {0}) program.now tt unnoted t.body.0 ∷ [])) program.now.tasks) }
+        ≡ map (λ (t : TaskUnit). plain_settle program.now (plain_frame program.now t.body.0 ∷ [])) program.now.tasks) }
 {
     let mut frames = Vec::new(alloc);
     for task in program.tasks.as_slice() {
@@ -83,7 +90,7 @@ impl State {
     pub fn new(alloc: Global, program: &Program) -> Result<State, NoMemory>
         requires fine { IsWellFormed program.now }
         ensures held { IfOk result (λ s. IsHeld program.now s) }
-        ensures state { IfOk result (λ s. held program.now s ≡ opening (Unit {0}) program.now tt unnoted) }
+        ensures state { IfOk result (λ s. held program.now s ≡ plain_opening program.now) }
     {
         Ok(State {
             cells: bare_leaves(alloc, program)?,

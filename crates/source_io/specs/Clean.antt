@@ -8,6 +8,10 @@ use Rattle.source_io.specs.declared.memory_sink.CleanSink.{CleanSink}
 abbrev pub files_told : CleanFiles → Option (List (List ℕ × List ℕ))
 files_told files = Some files.list.items
 
+-- the names that were asked for
+abbrev pub names_asked : CleanFiles → Option (List (List ℕ))
+names_asked files = Some files.asked
+
 -- the bytes that were taken so far
 abbrev pub bytes_held : CleanSink → Option (List ℕ)
 bytes_held sink = Some sink.bytes.items

@@ -1,0 +1,10 @@
+-- proofs/exits/fine_exits/Invariants.antt
+use Rattle.std.proofs.Common.{◌≡◌, ℕ, ◌<◌, Some}
+use Rattle.std.specs.Prelude.{slice_get}
+use Rattle.core_form.specs.Code.{code_of}
+use Rattle.core_form.specs.Exits.{ExitsIn}
+use Rattle.core_form.proofs.exits.fine_exits.Given as goal
+
+abbrev pub invariant-loop-body : goal.invariant-loop-body
+invariant-loop-body l = (k : ℕ) (body : _) → k < l.body-index → slice_get l.program.bodies k ≡ Some body
+    → ExitsIn 0 (code_of l.program.exprs l.program.stmts body.code)

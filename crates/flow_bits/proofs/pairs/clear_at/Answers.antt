@@ -1,0 +1,9 @@
+use Rattle.std.proofs.Common.{◌≡◌, ◌*◌, length, arith}
+use Rattle.flow_bits.specs.Words.{words_for}
+use Rattle.flow_bits.proofs.Squares.{relates_is}
+use Rattle.flow_bits.proofs.pairs.clear_at.Goals as goal
+
+pub returns-clause-set : goal.returns-clause-set
+returns-clause-set c =
+    let e : length c.clear_row.new.into ≡ c.args.size * words_for c.args.size = omega arith in
+    λ x y. grind (arith, relates_is c.args.size c.clear_row.new.into e x y, relates_is c.args.size c.args.words.now c.requires.tidy.count x y, c.clear_row.ensures.set x y)

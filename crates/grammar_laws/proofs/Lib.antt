@@ -1,0 +1,5 @@
+pub mod Fitting
+pub mod Formed
+pub mod Factored
+pub mod Tracks
+pub mod Counted
