@@ -65,8 +65,3 @@ may_open false a e s = cc
 pub by_tick : (m : Bool) (a : Phrase) (ts : List Lexeme) (cursor next : Cursor) (built : List Tree) (x : Built × Cursor × Bool)
     → Awaits (Suffixes m a) (point ts cursor) (point ts next) (Rest (BehindTick a)) → cursor.at ≤ next.at → Suffixed (BehindTick a) ts next built (Ok x) → MaybeSuffixed m a ts cursor built (Ok (Some x))
 by_tick m a ts cursor next built (y, end, opens) s h i = record { within = i.within; forward = omega (arith, i.forward, h); ends = i.ends; awaits = tail s i.awaits refl }
-
--- a named node over one other
-pub named_over : (built : List Tree) {xs : List ExprNo} (a : ExprNo) (form : Form) (k : ExprKind) (t : Lexeme) (span : Span) {f : Form} {s : Span} {x : Phrase} → x ≡ named f k t s (trees_at built xs) → xs ≡ a ∷ [] → f ≡ form → s ≡ span → x ≡ named form k t span (tree_at built a ∷ [])
-named_over built {xs} a form k t span {f} {s} e g h i =
-    e ∙ (ap (λ (z : List ExprNo). named f k t s (trees_at built z)) g ∙ (ap (λ (z : Form). named z k t s (tree_at built a ∷ [])) h ∙ ap (λ (z : Span). named form k t z (tree_at built a ∷ [])) i))

@@ -8,6 +8,7 @@ ghost use Rattle.ada_grammar.specs.Limits.{before_range, outermost};
 ghost use Rattle.ada_grammar.specs.Phrases.{Tree};
 ghost use Rattle.ada_grammar.specs.Reading.{Answers};
 ghost use Rattle.ada_grammar.specs.declared.tokens.Cursor.{Cursor};
+ghost use Rattle.ada_tree.specs.Tree.{IsOrdered};
 
 use crate::readers;
 use ada_grammar::{Built, Cursor, Fault, Nesting, phase_fault};
@@ -46,6 +47,7 @@ pub fn read_expr(
     requires depth { depth ≤ 128 }
     ensures reads { IsAnswer parts.Expr (outermost depth) tokens.now at (trees units.new.exprs) result }
     ensures extends { Extends units.old.exprs units.new.exprs }
+    ensures ordered { IsOrdered units.old → IsOrdered units.new }
     ensures units { units.new.units ≡ units.old.units }
     ensures decls { units.new.decls ≡ units.old.decls }
     ensures stmts { units.new.stmts ≡ units.old.stmts }
@@ -74,6 +76,7 @@ pub fn read_simple(
     requires depth { depth ≤ 128 }
     ensures reads { IsAnswer parts.Simple (outermost depth) tokens.now at (trees units.new.exprs) result }
     ensures extends { Extends units.old.exprs units.new.exprs }
+    ensures ordered { IsOrdered units.old → IsOrdered units.new }
     ensures units { units.new.units ≡ units.old.units }
     ensures decls { units.new.decls ≡ units.old.decls }
     ensures stmts { units.new.stmts ≡ units.old.stmts }
@@ -102,6 +105,7 @@ pub fn read_name(
     requires depth { depth ≤ 128 }
     ensures reads { IsAnswer parts.Name (outermost depth) tokens.now at (trees units.new.exprs) result }
     ensures extends { Extends units.old.exprs units.new.exprs }
+    ensures ordered { IsOrdered units.old → IsOrdered units.new }
     ensures units { units.new.units ≡ units.old.units }
     ensures decls { units.new.decls ≡ units.old.decls }
     ensures stmts { units.new.stmts ≡ units.old.stmts }
@@ -130,6 +134,7 @@ pub fn read_drange(
     requires depth { depth ≤ 128 }
     ensures reads { IsAnswer parts.Drange (before_range depth) tokens.now at (trees units.new.exprs) result }
     ensures extends { Extends units.old.exprs units.new.exprs }
+    ensures ordered { IsOrdered units.old → IsOrdered units.new }
     ensures units { units.new.units ≡ units.old.units }
     ensures decls { units.new.decls ≡ units.old.decls }
     ensures stmts { units.new.stmts ≡ units.old.stmts }

@@ -42,12 +42,6 @@ pub finds_last : {part inner : Part} (ts : List Lexeme) (cursor middle : Cursor)
 finds_last ts cursor middle u r (Ok end) s h check i = record { children = i.children; holds = i.holds; forward = omega (arith, i.forward, h); ends = i.ends; reads = tail s i.reads check }
 finds_last ts cursor middle u r (Err e) s h check i = refuses_last ts cursor middle e s check i
 
-pub skips_last : {part inner : Part} (ts : List Lexeme) (cursor middle : Cursor) (result : Result Cursor Fault)
-    → Awaits part (point ts cursor) (point ts middle) (Rest inner) → cursor.at ≤ middle.at → ends_in part inner ≡ true
-    → Skips inner ts middle result → Skips part ts cursor result
-skips_last ts cursor middle (Ok end) s h check i = record { forward = omega (arith, i.forward, h); ends = i.ends; reads = tail s i.reads check }
-skips_last ts cursor middle (Err e) s h check i = refuses_last ts cursor middle e s check i
-
 -- the token that was looked for is there, or is not
 pub absent : (c : Class) (of : Token → Lexeme) (ts : List Lexeme) (cursor : Cursor) {o : Option (Token × Cursor)} → Looks c of ts cursor o → o ≡ None → NotFirst c (drop cursor.at ts)
 absent c of ts cursor {o} h e = subst (λ (z : Option (Token × Cursor)). Looks c of ts cursor z) e h

@@ -56,19 +56,12 @@ ordered_append m (n ∷ ns) ms a b = (a.0, ordered_append (m + 1) ns ms a.1 (sub
 pub extends_same : (nodes : List ExprNode) → Extends nodes nodes
 extends_same nodes = record { further = []; joins = sym (append-nil nodes); ordered = tt }
 
-pub extends_equal : {old new : List ExprNode} → new ≡ old → Extends old new
-extends_equal {old} {new} e = record { further = []; joins = e ∙ sym (append-nil old); ordered = tt }
-
 pub extends_on : {a b c : List ExprNode} → Extends a b → Extends b c → Extends a c
 extends_on {a} {b} {c} x y = record {
   further = x.further ++ y.further;
   joins = y.joins ∙ (ap (λ (z : List ExprNode). z ++ y.further) x.joins ∙ append_assoc a x.further y.further);
   ordered = ordered_append (length a) x.further y.further x.ordered (subst (λ (z : ℕ). AreOrdered z y.further) (ap (λ (z : List ExprNode). length z) x.joins ∙ length-append a x.further) y.ordered);
 }
-
--- a node that is added behind its children
-pub extends_added : {old new : List ExprNode} (n : ExprNode) → new ≡ old ++ n ∷ [] → AreBelow (length old) n.exprs → Extends old new
-extends_added {old} {new} n e below = record { further = n ∷ []; joins = e; ordered = (below, tt) }
 
 trees_last : (ns : List ExprNode) (n : ExprNode) → trees (ns ++ n ∷ []) ≡ trees ns ++ tree_of (trees ns) n ∷ []
 unfolding trees

@@ -44,9 +44,6 @@ get_last (y ∷ xs) x = get_last xs x
 pub lengthens_same : {A : Type 0} (xs : List A) → Lengthens A xs xs
 lengthens_same xs = record { further = []; joins = sym (append-nil xs) }
 
-pub lengthens_equal : {A : Type 0} {xs ys : List A} → ys ≡ xs → Lengthens A xs ys
-lengthens_equal {A} {xs} {ys} e = record { further = []; joins = e ∙ sym (append-nil xs) }
-
 pub lengthens_on : {A : Type 0} {xs ys zs : List A} → Lengthens A xs ys → Lengthens A ys zs → Lengthens A xs zs
 lengthens_on {A} {xs} {ys} {zs} g h = record {
   further = g.further ++ h.further;
@@ -119,27 +116,6 @@ stands_push a b = stands_append a b
 -- the same numbers by another name
 stands_as : {u : Units} {xs ys : List Ref} {ts : List Tree} → ys ≡ xs → Stands u xs ts → Stands u ys ts
 stands_as {u} {xs} {ys} {ts} e s = subst (λ (z : List Ref). Stands u z ts) (sym e) s
-
-same_head : (x y : Head × List Ref) → Some x ≡ Some y → x.0 ≡ y.0
-same_head x y e = ap (λ (z : Head × List Ref). z.0) (same_Some x y e)
-
-same_below : (x y : Head × List Ref) → Some x ≡ Some y → x.1 ≡ y.1
-same_below x y e = ap (λ (z : Head × List Ref). z.1) (same_Some x y e)
-
-same_over : {h k : Head} {ts us : List Tree} {t w : Tree} → h ≡ k → ts ≡ us → t ≡ with_all (Root h) ts → w ≡ with_all (Root k) us → t ≡ w
-same_over {h} {k} {ts} {us} {t} {w} e f a b = a ∙ (ap (λ (z : Head). with_all (Root z) ts) e ∙ (ap (λ (z : List Tree). with_all (Root k) z) f ∙ sym b))
-
-same_list : {t w : Tree} {ts us : List Tree} → t ≡ w → ts ≡ us → t ∷ ts ≡ w ∷ us
-same_list {t} {w} {ts} {us} e f = ap (λ (z : Tree). z ∷ ts) e ∙ ap (λ (z : List Tree). w ∷ z) f
-
--- no number has two trees
-pub stands_one : {u : Units} {rs : List Ref} {ts us : List Tree} → Stands u rs ts → Stands u rs us → ts ≡ us
-stands_one nowhere nowhere = refl
-stands_one (expression within is rest) (expression within2 is2 rest2) = same_list (is ∙ sym is2) (stands_one rest rest2)
-stands_one (expression within is rest) (over {h = h} {cs = cs} node below under is2 rest2) = absurd (none-some (h, cs) node)
-stands_one (over {h = h} {cs = cs} node below under is rest) (expression within is2 rest2) = absurd (none-some (h, cs) node)
-stands_one (over {h = h} {cs = cs} node below under is rest) (over {h = k} {cs = ds} {under = vs} node2 below2 under2 is2 rest2) =
-    same_list (same_over (same_head (h, cs) (k, ds) (sym node ∙ node2)) (stands_one under (stands_as (same_below (h, cs) (k, ds) (sym node ∙ node2)) under2)) is is2) (stands_one rest rest2)
 
 -- the number is one of the list of its type
 abbrev pub IsWithin : Units → Ref → Type 0

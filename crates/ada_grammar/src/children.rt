@@ -433,12 +433,25 @@ mod tests {
             &mut into,
         )?;
         assert_eq!(rt; units.exprs.len(), 1);
-        assert_eq!(rt; units.decls.len(), 2);
         assert_eq!(rt; into.decls.len(), 2);
-        if let Some(node) = units.decls.get(1) {
-            assert_eq!(rt; node.exprs.len(), 1);
+        for node in units.decls.as_slice() {
+            assert_eq!(rt; node.exprs.as_slice(), [ExprNo(0)].as_slice());
         }
         Ok(())
+    }
+
+    /// A null statement over an end name, and an exit.
+    fn statements(alloc: Global, units: &mut Units, tokens: &Tokens) -> Result<Children, NoMemory> {
+        let mut own = Children::new(alloc);
+        add_end_name(alloc, units, tokens, word(0, 1), &mut own)?;
+        let mut into = Children::new(alloc);
+        add_statement(units, StmtKind::Null, PART, own, &mut into)?;
+        let exit = StmtKind::Exit {
+            has_loop_name: true,
+            has_condition: false,
+        };
+        add_statement(units, exit, PART, Children::new(alloc), &mut into)?;
+        Ok(into)
     }
 
     #[test]
@@ -446,15 +459,7 @@ mod tests {
         let alloc = rt.alloc();
         let tokens = words(alloc)?;
         let mut units = Units::new(alloc);
-        let mut own = Children::new(alloc);
-        add_expr(ExprNo(0), &mut own)?;
-        let mut into = Children::new(alloc);
-        add_statement(&mut units, StmtKind::Null, PART, own, &mut into)?;
-        let exit = StmtKind::Exit {
-            has_loop_name: true,
-            has_condition: false,
-        };
-        add_statement(&mut units, exit, PART, Children::new(alloc), &mut into)?;
+        let mut into = statements(alloc, &mut units, &tokens)?;
         add_declaration(
             &mut units,
             DeclKind::PrivatePart,

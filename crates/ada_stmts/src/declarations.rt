@@ -365,13 +365,13 @@ fn type_definition(
     }
     if let Some((_, behind_null)) = accept(tokens, cursor, Class::Reserved(Reserved::Null))? {
         let (_, behind_behind) = expect(tokens, behind_null, Class::Reserved(Reserved::Record))?;
-        let mut own = Children::new(alloc);
+        let own = Children::new(alloc);
         let names = only(alloc, name)?;
         let kind = DeclKind::NullRecordType;
         return closing(alloc, units, tokens, behind_behind, kind, &names, own, into);
     }
     if let Some((_, behind_private)) = accept(tokens, cursor, Class::Reserved(Reserved::Private))? {
-        let mut own = Children::new(alloc);
+        let own = Children::new(alloc);
         let names = only(alloc, name)?;
         let kind = DeclKind::PrivateType;
         return closing(

@@ -63,35 +63,63 @@ fn statement(
         StatementForm::Named => named_statement(alloc, units, tokens, cursor, first, into),
         StatementForm::If => if_statement(alloc, units, tokens, cursor, first, into),
         StatementForm::Case => case_statement(alloc, units, tokens, cursor, first, into),
-        StatementForm::While => {
-            let mut own = Children::new(alloc);
-            while_loop(alloc, units, tokens, cursor, false, first, own, into)
-        }
-        StatementForm::For => {
-            let mut own = Children::new(alloc);
-            for_loop(alloc, units, tokens, cursor, false, first, own, into)
-        }
-        StatementForm::Loop => {
-            let mut own = Children::new(alloc);
-            let kind = StmtKind::Loop {
+        StatementForm::While => while_loop(
+            alloc,
+            units,
+            tokens,
+            cursor,
+            false,
+            first,
+            Children::new(alloc),
+            into,
+        ),
+        StatementForm::For => for_loop(
+            alloc,
+            units,
+            tokens,
+            cursor,
+            false,
+            first,
+            Children::new(alloc),
+            into,
+        ),
+        StatementForm::Loop => loop_body(
+            alloc,
+            units,
+            tokens,
+            cursor,
+            StmtKind::Loop {
                 has_label: false,
                 has_end_name: false,
-            };
-            loop_body(alloc, units, tokens, cursor, kind, first.span, own, into)
-        }
-        StatementForm::Declare => {
-            let mut own = Children::new(alloc);
-            declare_block(alloc, units, tokens, cursor, false, first, own, into)
-        }
-        StatementForm::Begin => {
-            let mut own = Children::new(alloc);
-            let kind = StmtKind::Block {
+            },
+            first.span,
+            Children::new(alloc),
+            into,
+        ),
+        StatementForm::Declare => declare_block(
+            alloc,
+            units,
+            tokens,
+            cursor,
+            false,
+            first,
+            Children::new(alloc),
+            into,
+        ),
+        StatementForm::Begin => block_body(
+            alloc,
+            units,
+            tokens,
+            cursor,
+            StmtKind::Block {
                 has_label: false,
                 has_declare: false,
                 has_end_name: false,
-            };
-            block_body(alloc, units, tokens, cursor, kind, first.span, own, into)
-        }
+            },
+            first.span,
+            Children::new(alloc),
+            into,
+        ),
         StatementForm::Exit => exit_statement(alloc, units, tokens, cursor, first, into),
         StatementForm::Return => return_statement(alloc, units, tokens, cursor, first, into),
         StatementForm::Delay => delay_statement(alloc, units, tokens, cursor, first, into),

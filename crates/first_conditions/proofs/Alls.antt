@@ -10,10 +10,6 @@ module _ {X : Type 0} (P : X → Type 0) where
     λ a. h.1 (subst (λ l. All P l) (sym rest) (All-tail P x xs (subst (λ l. All P l) whole a))),
   )
 
-  -- the first fails
-  pub none_of : (x : X) (xs zs : List X) → zs ≡ x ∷ xs → (P x → ⊥) → All P zs → ⊥
-  none_of x xs zs whole n a = n (All-head P x xs (subst (λ l. All P l) whole a))
-
   -- what holds of a mapped list
   pub All-from_map : {Y : Type 0} (f : Y → X) (ys : List Y) → All P (map f ys) → All (λ y. P (f y)) ys
   All-from_map f [] a = All-nil (λ y. P (f y))

@@ -61,118 +61,122 @@ fn with_operators(alloc: Global, number: usize) -> Result<String, AllocError> {
     COUNTER.replace(alloc, " + Step", sum.as_str())
 }
 
+/// The counter meets the conditions, and its first variable is `Count`.
+const FIRST: Answer = Answer::Met(Some(0));
+
+/// What is answered of the counter where the first text in it is replaced by the second.
+const CHANGES: [(&str, &str, Answer); 51] = [
+    ("", "", FIRST),
+    // Names are the same in whatever case, and each is declared once.
+    ("Count + Step", "COUNT + sTEP", FIRST),
+    ("   Step :", "   count :", Answer::Unmet),
+    ("   Step :", "   Counter :", Answer::Unmet),
+    ("   Step :", "   INTEGER :", Answer::Unmet),
+    ("   Step :", "   Inc :", Answer::Unmet),
+    ("   Count :", "   Total :", Answer::Unmet),
+    ("+ Step", "+ Other", Answer::Unmet),
+    ("+ Step", "+ Inc", Answer::Unmet),
+    ("Count := Count", "Other := Count", Answer::Unmet),
+    ("Integer := 1", "Natural := 1", Answer::Unmet),
+    // Each item of the Global is a variable, once, under one of three modes.
+    ("In_Out => Count", "In_Out => (Count, Count)", Answer::Unmet),
+    ("Input => Step", "Input => COUNT", Answer::Unmet),
+    ("Input => Step", "Input => Other", Answer::Unmet),
+    ("Input => Step", "INPUT => Step", FIRST),
+    ("Input => Step", "Output => Step", FIRST),
+    ("Input => Step", "Proof_In => Step", Answer::Unmet),
+    ("(In_Out => Count, Input => Step)", "null", FIRST),
+    ("(In_Out => Count, Input => Step)", "()", Answer::Unspelled),
+    ("Global", "Depends", Answer::Unmet),
+    // The name behind an `end` may be left out.
+    ("end Inc", "end Dec", Answer::Unmet),
+    ("end Inc", "end", FIRST),
+    ("end Counter", "end", FIRST),
+    ("end Counter;\npackage", "end Inc;\npackage", Answer::Unmet),
+    ("body Counter", "body Inc", Answer::Unmet),
+    ("procedure Inc is", "procedure Dec is", Answer::Unmet),
+    // A number has digits alone, and 31 bits at most.
+    ("1;", "2147483647;", FIRST),
+    ("1;", "2147483648;", Answer::Unspelled),
+    ("1;", "1_0;", Answer::Unspelled),
+    ("1;", "16#F#;", Answer::Unspelled),
+    ("1;", "1E1;", Answer::Unspelled),
+    ("1;", "-1;", Answer::Unspelled),
+    // A list has a statement.
+    ("Count := Count + Step;", "null;", FIRST),
+    ("Count := Count + Step;", "", Answer::Unspelled),
+    // An if has a test of one relation, and ends by its own words.
+    ("Count :=", "if Step > 0 then null; end if; Count :=", FIRST),
+    (
+        "Count :=",
+        "if Step > 0 then null; else null; end if; Count :=",
+        FIRST,
+    ),
+    (
+        "Count :=",
+        "if 1 + 1 /= Step - 1 then null; end if; Count :=",
+        FIRST,
+    ),
+    (
+        "Count :=",
+        "if Step > Other then null; end if; Count :=",
+        Answer::Unmet,
+    ),
+    (
+        "Count :=",
+        "if Other > Step then null; end if; Count :=",
+        Answer::Unmet,
+    ),
+    (
+        "Count :=",
+        "if Step > 0 then Other := 1; end if; Count :=",
+        Answer::Unmet,
+    ),
+    (
+        "Count :=",
+        "if Step then null; end if; Count :=",
+        Answer::Unspelled,
+    ),
+    (
+        "Count :=",
+        "if Step > 0 > 1 then null; end if; Count :=",
+        Answer::Unspelled,
+    ),
+    (
+        "Count :=",
+        "if Step > 0 then end if; Count :=",
+        Answer::Unspelled,
+    ),
+    (
+        "Count :=",
+        "if Step > 0 then null; else end if; Count :=",
+        Answer::Unspelled,
+    ),
+    (
+        "Count :=",
+        "if Step > 0 then null; end; Count :=",
+        Answer::Unspelled,
+    ),
+    (
+        "Count :=",
+        "if Step > 0 then null; Count :=",
+        Answer::Unspelled,
+    ),
+    ("Count :=", "else null; end if; Count :=", Answer::Unspelled),
+    ("Count :=", "null; end if; Count :=", Answer::Unspelled),
+    (
+        "Count :=",
+        "if Step > 0 then null; else null; else null; end if; Count :=",
+        Answer::Unspelled,
+    ),
+    ("+ Step", "* Step", Answer::Unspelled),
+    ("+ Step", "+ ~Step", Answer::Unspelled),
+];
+
 #[test]
 fn changes_of_the_counter(rt: HostRuntime) -> Result<(), Fail> {
     let alloc = rt.alloc();
-    let first = Answer::Met(Some(0));
-    let changes = [
-        ("", "", first),
-        // Names are the same in whatever case, and each is declared once.
-        ("Count + Step", "COUNT + sTEP", first),
-        ("   Step :", "   count :", Answer::Unmet),
-        ("   Step :", "   Counter :", Answer::Unmet),
-        ("   Step :", "   INTEGER :", Answer::Unmet),
-        ("   Step :", "   Inc :", Answer::Unmet),
-        ("   Count :", "   Total :", Answer::Unmet),
-        ("+ Step", "+ Other", Answer::Unmet),
-        ("+ Step", "+ Inc", Answer::Unmet),
-        ("Count := Count", "Other := Count", Answer::Unmet),
-        ("Integer := 1", "Natural := 1", Answer::Unmet),
-        // Each item of the Global is a variable, once, under one of three modes.
-        ("In_Out => Count", "In_Out => (Count, Count)", Answer::Unmet),
-        ("Input => Step", "Input => COUNT", Answer::Unmet),
-        ("Input => Step", "Input => Other", Answer::Unmet),
-        ("Input => Step", "INPUT => Step", first),
-        ("Input => Step", "Output => Step", first),
-        ("Input => Step", "Proof_In => Step", Answer::Unmet),
-        ("(In_Out => Count, Input => Step)", "null", first),
-        ("(In_Out => Count, Input => Step)", "()", Answer::Unspelled),
-        ("Global", "Depends", Answer::Unmet),
-        // The name behind an `end` may be left out.
-        ("end Inc", "end Dec", Answer::Unmet),
-        ("end Inc", "end", first),
-        ("end Counter", "end", first),
-        ("end Counter;\npackage", "end Inc;\npackage", Answer::Unmet),
-        ("body Counter", "body Inc", Answer::Unmet),
-        ("procedure Inc is", "procedure Dec is", Answer::Unmet),
-        // A number has digits alone, and 31 bits at most.
-        ("1;", "2147483647;", first),
-        ("1;", "2147483648;", Answer::Unspelled),
-        ("1;", "1_0;", Answer::Unspelled),
-        ("1;", "16#F#;", Answer::Unspelled),
-        ("1;", "1E1;", Answer::Unspelled),
-        ("1;", "-1;", Answer::Unspelled),
-        // A list has a statement.
-        ("Count := Count + Step;", "null;", first),
-        ("Count := Count + Step;", "", Answer::Unspelled),
-        // An if has a test of one relation, and ends by its own words.
-        ("Count :=", "if Step > 0 then null; end if; Count :=", first),
-        (
-            "Count :=",
-            "if Step > 0 then null; else null; end if; Count :=",
-            first,
-        ),
-        (
-            "Count :=",
-            "if 1 + 1 /= Step - 1 then null; end if; Count :=",
-            first,
-        ),
-        (
-            "Count :=",
-            "if Step > Other then null; end if; Count :=",
-            Answer::Unmet,
-        ),
-        (
-            "Count :=",
-            "if Other > Step then null; end if; Count :=",
-            Answer::Unmet,
-        ),
-        (
-            "Count :=",
-            "if Step > 0 then Other := 1; end if; Count :=",
-            Answer::Unmet,
-        ),
-        (
-            "Count :=",
-            "if Step then null; end if; Count :=",
-            Answer::Unspelled,
-        ),
-        (
-            "Count :=",
-            "if Step > 0 > 1 then null; end if; Count :=",
-            Answer::Unspelled,
-        ),
-        (
-            "Count :=",
-            "if Step > 0 then end if; Count :=",
-            Answer::Unspelled,
-        ),
-        (
-            "Count :=",
-            "if Step > 0 then null; else end if; Count :=",
-            Answer::Unspelled,
-        ),
-        (
-            "Count :=",
-            "if Step > 0 then null; end; Count :=",
-            Answer::Unspelled,
-        ),
-        (
-            "Count :=",
-            "if Step > 0 then null; Count :=",
-            Answer::Unspelled,
-        ),
-        ("Count :=", "else null; end if; Count :=", Answer::Unspelled),
-        ("Count :=", "null; end if; Count :=", Answer::Unspelled),
-        (
-            "Count :=",
-            "if Step > 0 then null; else null; else null; end if; Count :=",
-            Answer::Unspelled,
-        ),
-        ("+ Step", "* Step", Answer::Unspelled),
-        ("+ Step", "+ ~Step", Answer::Unspelled),
-    ];
-    for (old, new, wanted) in changes {
+    for (old, new, wanted) in CHANGES {
         let text = COUNTER.replace(alloc, old, new)?;
         let found = answer_of(alloc, text.as_bytes())?;
         assert_eq!(rt; found, wanted, "with {new}");

@@ -7,7 +7,8 @@ use Rattle.core_form.specs.declared.program.Program.{Program}
 use Rattle.first_path.specs.declared.source.Source.{Source}
 use Rattle.first_lower.specs.declared.program.Roots.{Roots}
 use Rattle.first_lower.specs.Levels.{ends}
-use Rattle.first_lower.specs.Lowered.{low_variables, low_leaf, low_var, low_item, low_package, low_procedure, elaboration, each_from, assignments_of}
+use Rattle.first_lower.specs.Lowered.{low_variables, low_leaf, low_var, low_item, low_package}
+use Rattle.first_lower.specs.Lowered.{low_procedure, elaboration, each_from, assignments_of}
 
 -- the nodes have the codes of the bodies
 pub record HasRoots (s : Source) (keys : List (List ℕ)) (nodes : Nodes) (r : Roots) : Type 0 where

@@ -30,4 +30,5 @@ codes_before code (s ∷ ss) rest = Then (code s) (codes_before code ss rest)
 pub record Lists (old new : Nodes) (before after : List StmtNo) (put : Code → Code) : Type 0 where
   pub adds : Adds old new
   pub within : Each (λ s. s.0 < length new.stmts) after
-  pub codes : (rest : Code) → codes_before (code_of new.exprs new.stmts) after rest ≡ codes_before (code_of old.exprs old.stmts) before (put rest)
+  pub codes : (rest : Code) →
+      codes_before (code_of new.exprs new.stmts) after rest ≡ codes_before (code_of old.exprs old.stmts) before (put rest)

@@ -117,7 +117,8 @@ fn open_if(
     requires test { KnownTest table.now test.now }
     requires within { IsWithin nodes.old unfinished.old }
     ensures { OnOk result (Reaches nodes.old nodes.new unfinished.new
-        (levels_after table.now (levels_of nodes.old unfinished.old.ifs.items) (codes_of nodes.old unfinished.old.list) (line.If test.now)) []) }
+        (levels_after table.now (levels_of nodes.old unfinished.old.ifs.items) (codes_of nodes.old unfinished.old.list)
+        (line.If test.now)) []) }
 {
     let test = add_test(alloc, nodes, table, test)?;
     let before = unfinished.take_list(alloc);
@@ -163,7 +164,8 @@ fn add_branch(
     ensures adds { OnOk result (Adds nodes.old nodes.new) }
     ensures within { IfOk result (λ s. s.0 < length nodes.new.stmts) }
     ensures code { IfOk result (λ s. code_of nodes.new.exprs nodes.new.stmts s
-        ≡ closed (record { before = []; test = expr_of nodes.old.exprs test; main = main_of nodes.old main }) (code_of nodes.old.exprs nodes.old.stmts side)) }
+        ≡ closed (record { before = []; test = expr_of nodes.old.exprs test; main = main_of nodes.old main })
+        (code_of nodes.old.exprs nodes.old.stmts side)) }
 {
     match main {
         Some(yes) => nodes.add_stmt(CoreStmt::If {

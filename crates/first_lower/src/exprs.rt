@@ -110,7 +110,8 @@ fn add_application(
     requires second { second.0 < length nodes.old.exprs }
     ensures adds { Adds nodes.old nodes.new }
     ensures within { IfOk result (λ e. e.0 < length nodes.new.exprs) }
-    ensures tree { IfOk result (λ e. expr_of nodes.new.exprs e ≡ apply op (expr_of nodes.old.exprs first) (expr_of nodes.old.exprs second)) }
+    ensures tree { IfOk result (λ e. expr_of nodes.new.exprs e
+        ≡ apply op (expr_of nodes.old.exprs first) (expr_of nodes.old.exprs second)) }
 {
     let args = pair(alloc, first, second)?;
     nodes.add_expr(CoreExpr::Apply { op, args })
@@ -145,7 +146,8 @@ fn add_relation(
     requires right { right.0 < length nodes.old.exprs }
     ensures adds { OnOk result (Adds nodes.old nodes.new) }
     ensures within { IfOk result (λ e. e.0 < length nodes.new.exprs) }
-    ensures tree { IfOk result (λ e. expr_of nodes.new.exprs e ≡ low_relation relation (expr_of nodes.old.exprs left) (expr_of nodes.old.exprs right)) }
+    ensures tree { IfOk result (λ e. expr_of nodes.new.exprs e
+        ≡ low_relation relation (expr_of nodes.old.exprs left) (expr_of nodes.old.exprs right)) }
 {
     match relation {
         Relation::Equal => add_application(alloc, nodes, CoreOp::Eq, left, right),

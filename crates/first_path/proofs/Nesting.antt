@@ -2,6 +2,7 @@
 use Rattle.std.proofs.Common.{◌≡◌, ℕ, zero, suc, ◌+◌, Bool, true, false, List, [], ◌∷◌, length, Option, Some, None, IsTrue, refl, sym, ap, subst, ◌∙◌, arith}
 use Rattle.std.specs.Prelude.{nat_lt, ◌&&◌}
 use Rattle.std.proofs.lemmas.Bool.{lt-ltb, ltb-true}
+use Rattle.spark_messages.proofs.Bools.{both}
 use Rattle.first_path.specs.declared.nested.Side.{Side}
 use Rattle.first_path.specs.declared.nested.Side.TheVariants as side
 use Rattle.first_path.specs.declared.source.Line.{Line}
@@ -15,14 +16,6 @@ below n m e = lt-ltb n 128 (omega (arith, e))
 
 and_true : (a b : Bool) → a ≡ true → (a && b) ≡ b
 and_true a b e = ap (λ (x : Bool). x && b) e
-
-left_true : (a b : Bool) → (a && b) ≡ true → a ≡ true
-left_true true b h = refl
-left_true false b h = absurd cc
-
-right_true : (a b : Bool) → (a && b) ≡ true → b ≡ true
-right_true true b h = h
-right_true false b h = absurd cc
 
 mutual
   -- the lines of a list of statements leave a list that has a statement
@@ -121,16 +114,16 @@ awaits room [] has [] e h = (None, (tt, subst (λ (x : Bool). Comes x None) (sym
 awaits room (s ∷ ss) has [] e h = absurd cc
 awaits room sides has (line.Null ∷ ls) e h = before room Null sides has ls tt (awaits room sides true ls e h)
 awaits room sides has (line.Assign target value ∷ ls) e h = before room (Assign target value) sides has ls tt (awaits room sides true ls e h)
-awaits zero sides has (line.If test ∷ ls) e h = absurd (let l = ltb-true (length sides) 128 (left_true (nat_lt (length sides) 128) _ h) in omega (arith, e, l))
+awaits zero sides has (line.If test ∷ ls) e h = absurd (let l = ltb-true (length sides) 128 (both (nat_lt (length sides) 128) _ h).0 in omega (arith, e, l))
 awaits (suc room) sides has (line.If test ∷ ls) e h =
-    whole_if room test sides has ls (awaits room (side.Then ∷ sides) false ls (omega (arith, e)) (right_true (nat_lt (length sides) 128) _ h))
+    whole_if room test sides has ls (awaits room (side.Then ∷ sides) false ls (omega (arith, e)) (both (nat_lt (length sides) 128) _ h).1)
 awaits room [] has (line.Else ∷ ls) e h = absurd cc
 awaits room (side.Then ∷ ss) has (line.Else ∷ ls) e h =
-    else_part room ss has ls (left_true has _ h) (awaits room (side.Else ∷ ss) false ls e (right_true has _ h))
+    else_part room ss has ls (both has _ h).0 (awaits room (side.Else ∷ ss) false ls e (both has _ h).1)
 awaits room (side.Else ∷ ss) has (line.Else ∷ ls) e h = absurd cc
 awaits room [] has (line.EndIf ∷ ls) e h = absurd cc
 awaits room (s ∷ ss) has (line.EndIf ∷ ls) e h =
-    end_part room s ss has ls (left_true has _ h) (awaits (suc room) ss true ls (omega (arith, e)) (right_true has _ h))
+    end_part room s ss has ls (both has _ h).0 (awaits (suc room) ss true ls (omega (arith, e)) (both has _ h).1)
 
 of_awaits : (ls : List Line) → Awaits 128 [] false ls → AreNested ls
 of_awaits ls (None, (f, c, e)) = absurd c

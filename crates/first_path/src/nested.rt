@@ -29,7 +29,8 @@ struct Nesting {
 
 /// Opens an if. False says that too many are open.
 fn open_if(nesting: &mut Nesting) -> Result<bool, NoMemory>
-    ensures { IfOk result (λ b. (ls : List Line) → (nat_lt (length nesting.old.sides.items) 128 && nests (side.Then ∷ nesting.old.sides.items) false ls)
+    ensures { IfOk result (λ b. (ls : List Line)
+        → (nat_lt (length nesting.old.sides.items) 128 && nests (side.Then ∷ nesting.old.sides.items) false ls)
         ≡ (b && nests nesting.new.sides.items nesting.new.has_statement ls)) }
 {
     if nesting.sides.len() >= MOST_OPEN {

@@ -18,7 +18,8 @@ use std::alloc::Global;
 /// The source that tokens spell, and none where they spell none.
 fn spelled_by(alloc: Global, tokens: &Tokens) -> Result<Option<Source>, NoMemory>
     requires { All (IsInside tokens.now.source) tokens.now.list }
-    ensures some { IfOk result (λ r. IfSome r (λ s. (symbols tokens.now.source tokens.now.list ≡ spelled s) × AreNested s.body.procedure.lines)) }
+    ensures some { IfOk result (λ r. IfSome r (λ s. (symbols tokens.now.source tokens.now.list ≡ spelled s)
+        × AreNested s.body.procedure.lines)) }
     ensures none { IfOk result (λ r. IfNone r ((s : Source) → symbols tokens.now.source tokens.now.list ≡ spelled s
         → AreNested s.body.procedure.lines → ⊥)) }
 {

@@ -3,6 +3,7 @@ pub mod Chains
 pub mod Changed
 pub mod Clean
 pub mod Empty
+pub mod Joins
 pub mod One
 pub mod Squares
 pub mod Steps

@@ -1,7 +1,7 @@
 -- Words of 64 bits, read as rows of flags that stand one behind another.
-use Rattle.std.specs.Prelude.{◌≡◌, ℕ, ◌+◌, ◌*◌, ◌/◌, ◌%◌, ◌<◌, ◌≤◌, ◌⊎◌, Bool, nat_eq, List, length, map, slice_index_or}
+use Rattle.std.specs.Prelude.{◌≡◌, ◌≢◌, ℕ, ◌+◌, ◌*◌, ◌/◌, ◌%◌, ◌<◌, ◌≤◌, ◌⊎◌, Bool, nat_eq, List, length, map, slice_index_or, bit_and, bit_or}
 use Rattle.std.specs.List.{range_with_len}
-use Rattle.std.specs.Int.{bit_at}
+use Rattle.std.specs.Int.{bit_at, bit_not, w64}
 
 -- the word at a place; 0 behind the last
 abbrev pub word : List ℕ → ℕ → ℕ
@@ -43,3 +43,9 @@ pub record IsTidy (size : ℕ) (words : List ℕ) : Type 0 where
 pub record IsEach (f : ℕ → ℕ → ℕ) (at start count : ℕ) (old from new : List ℕ) : Type 0 where
   pub within : (k : ℕ) → k < count → word new (at + k) ≡ f (word old (at + k)) (word from (start + k))
   pub others : (w : ℕ) → (w < at) ⊎ (at + count ≤ w) → word new w ≡ word old w
+
+-- the bits of so many words came in; `more` has a bit where one did
+pub record IsJoined (at start count : ℕ) (old from new : List ℕ) (more : ℕ) : Type 0 where
+  pub each : IsEach bit_or at start count old from new
+  pub grew : more ≢ 0 → (k : ℕ) × (k < count) × (bit_and (word from (start + k)) (bit_not w64 (word old (at + k))) ≢ 0)
+  pub same : more ≡ 0 → new ≡ old

@@ -1,6 +1,8 @@
-ghost use Rattle.std.specs.Prelude.{◌≡◌, ◌≢◌, ℕ, ◌+◌, ◌*◌, ◌<◌, ◌≤◌, ◌⊎◌, ◌↔◌, length, IsTrue, bit_and, bit_or, slice_set};
+ghost use Rattle.std.specs.Prelude.{◌≡◌, ◌≢◌, ℕ, ◌+◌, ◌*◌, ◌<◌, ◌≤◌, ◌⊎◌, ◌↔◌, length, IsTrue, bit_and, bit_or};
 ghost use Rattle.std.specs.Int.{bit_not, w64};
-ghost use Rattle.flow_bits.specs.Words.{IsEach, IsSet, word};
+ghost use Rattle.flow_bits.specs.Words.{IsEach, IsJoined, IsSet, word};
+
+use std::simd::prelude::*;
 
 // Rows of so many words each, one behind another. The words of one are changed one after another, each by the
 // word that stands at the same place of a second row.
@@ -9,27 +11,61 @@ ghost use Rattle.flow_bits.specs.Words.{IsEach, IsSet, word};
 pub fn join_words(into: &mut [u64], a: usize, from: &[u64], b: usize, width: usize) -> u64
     requires into { (a + 1) * width ≤ length into.old }
     requires from { (b + 1) * width ≤ length from.now }
-    ensures each { IsEach bit_or (a * width) (b * width) width into.old from.now into.new }
-    ensures grew { result ≢ 0 → (k : ℕ) × (k < width)
-        × (bit_and (word from.now (b * width + k)) (bit_not w64 (word into.old (a * width + k))) ≢ 0) }
-    ensures same { result ≡ 0 → into.new ≡ into.old }
+    ensures { IsJoined (a * width) (b * width) width into.old from.now into.new result }
+{
+    let fours = width / 4;
+    let at = a * width;
+    let start = b * width;
+    let more = join_fours(into, at, from, start, fours);
+    more | join_rest(into, at + 4 * fours, from, start + 4 * fours, width % 4)
+}
+
+// Four words at a time, so many times.
+fn join_fours(into: &mut [u64], at: usize, from: &[u64], start: usize, count: usize) -> u64
+    requires into { at + 4 * count ≤ length into.old }
+    requires from { start + 4 * count ≤ length from.now }
+    ensures { IsJoined at start (4 * count) into.old from.now into.new result }
 {
     let mut more = 0;
-    for k in 0..width {
-        more |= join_word(into, a * width + k, from[b * width + k]);
+    for k in 0..count {
+        more |= join_four(into, at + 4 * k, from, start + 4 * k);
     }
     more
 }
 
 #[inline]
-fn join_word(into: &mut [u64], at: usize, x: u64) -> u64
-    requires { at < length into.old }
-    ensures set { into.new ≡ slice_set into.old at (bit_or (word into.old at) x) }
-    ensures more { result ≡ bit_and x (bit_not w64 (word into.old at)) }
-    ensures same { result ≡ 0 → into.new ≡ into.old }
+fn join_four(into: &mut [u64], at: usize, from: &[u64], start: usize) -> u64
+    requires into { at + 4 ≤ length into.old }
+    requires from { start + 4 ≤ length from.now }
+    ensures { IsJoined at start 4 into.old from.now into.new result }
 {
-    let more = x & !into[at];
-    into[at] |= x;
+    let x = u64x4::from_slice(&from[start..]);
+    let y = u64x4::from_slice(&into[at..]);
+    (y | x).copy_to_slice(&mut into[at..]);
+    (x & !y).reduce_or()
+}
+
+// One word at a time.
+fn join_rest(into: &mut [u64], at: usize, from: &[u64], start: usize, count: usize) -> u64
+    requires into { at + count ≤ length into.old }
+    requires from { start + count ≤ length from.now }
+    ensures { IsJoined at start count into.old from.now into.new result }
+{
+    let mut more = 0;
+    for k in 0..count {
+        more |= join_word(into, at + k, from, start + k);
+    }
+    more
+}
+
+#[inline]
+fn join_word(into: &mut [u64], at: usize, from: &[u64], start: usize) -> u64
+    requires into { at < length into.old }
+    requires from { start < length from.now }
+    ensures { IsJoined at start 1 into.old from.now into.new result }
+{
+    let more = from[start] & !into[at];
+    into[at] |= from[start];
     more
 }
 

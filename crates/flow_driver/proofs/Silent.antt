@@ -34,9 +34,9 @@ use Rattle.spark_messages.specs.declared.messages.Message.{Message}
 use Rattle.spark_messages.specs.Message.{HaveSame, is_grave}
 use Rattle.flow_driver.specs.declared.report.Report.{Report}
 use Rattle.flow_driver.specs.GlobalCheck.{global_messages, input_var, listed_item, listed_messages, output_var, unlisted_from, unlisted_item, unlisted_var, used_mode, var_named, var_of, is_listed, is_written, is_read, is_left}
-use Rattle.flow_driver.specs.Report.{AreFlowMessages, HasReport, IsProgramOf, IsReading, IsReport, IsReportOf}
-use Rattle.flow_driver.specs.Run.{AreSources, has_errors, verdict}
-use Rattle.flow_driver.specs.Runs.{IsReadClean}
+use Rattle.flow_driver.specs.Report.{AreFlowMessages, HasReport, IsProgramOf, IsProgram, IsReading, IsReport, IsReportOf}
+use Rattle.flow_driver.specs.Run.{has_errors, verdict}
+use Rattle.flow_driver.specs.Runs.{HaveCleanRuns}
 use Rattle.flow_driver.proofs.OneReport.{contract, found_is, one_equation, one_spelled, procedure}
 use Rattle.flow_driver.proofs.SameMessages.{messages_same}
 use Rattle.core_form.specs.declared.program.Formal.{Formal}
@@ -420,26 +420,20 @@ module _ (p : Program) (fine : IsWellFormed p) (proper : IsProper p) (q : IsQuie
 pub silent_runs : (bytes : List ℕ) (r : Report) (p : Program) → HasReport bytes r → verdict r ≡ 0 → IsProgramOf bytes p → HasCleanRuns p
 silent_runs bytes r p h v k = clean_runs p k.fine k.proper (is_silent p k.fine k.proper (quiet bytes r p h v k))
 
--- the program of what was read, where its report has no error
-pub read_clean : {D : Type 0} (told : D → Option (List (List ℕ × List ℕ))) (gaps : D → Bool) (names : List (List ℕ)) (files : D) (sources : List (List ℕ)) (r : Report)
-    → AreSources (told files) (gaps files) names sources → IsReport sources r → verdict r ≡ 0 → IsReadClean told gaps names files
-unfolding IsReport
-read_clean told gaps names files [] r t h v = absurd h
-read_clean told gaps names files (bytes ∷ next ∷ more) r t h v = absurd h
-read_clean {D} told gaps names files (bytes ∷ []) r t h v = at_reading h.reading h.is_reading h.is_report
+-- sources whose report has no error have clean runs
+pub clean_sources : (sources : List (List ℕ)) (r : Report) → IsReport sources r → verdict r ≡ 0 → HaveCleanRuns sources
+unfolding IsReport IsProgram
+clean_sources [] r h v = absurd h
+clean_sources (bytes ∷ next ∷ more) r h v = absurd h
+clean_sources (bytes ∷ []) r h v = at_reading h.reading h.is_reading h.is_report
   where
-    at_reading : (o : Option Program) → IsReading bytes o → IsReportOf o r → IsReadClean told gaps names files
+    at_reading : (o : Option Program) → IsReading bytes o → IsReportOf o r → HaveCleanRuns (bytes ∷ [])
     at_reading None reading report =
         let parts = silent_by r.refused (has_errors r.messages) v in
         let z : true ≡ false = sym (ap (λ (x : Report). x.refused) report) ∙ parts.0 in
         absurd (cc)
     at_reading (Some p) reading report = record {
-      bytes = bytes;
-      report = r;
       program = p;
-      are_told = t;
-      has_report = h;
-      silent = v;
       is_program = reading;
-      clean = silent_runs bytes r p h v reading;
+      clean = λ q k. silent_runs bytes r q h v k;
     }

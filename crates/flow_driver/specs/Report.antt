@@ -106,6 +106,12 @@ pub record HasReport (bytes : List ℕ) (r : Report) : Type 0 where
   pub is_reading : IsReading bytes reading
   pub is_report : IsReportOf reading r
 
+-- the sources have this program: there is one file as yet
+unfoldable pub IsProgram : List (List ℕ) → Program → Type 0
+IsProgram [] p = ⊥
+IsProgram (source ∷ []) p = IsProgramOf source p
+IsProgram (source ∷ next ∷ more) p = ⊥
+
 -- the sources have this report: there is one file as yet
 unfoldable pub IsReport : List (List ℕ) → Report → Type 0
 IsReport [] r = ⊥

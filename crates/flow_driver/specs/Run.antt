@@ -1,5 +1,6 @@
 -- What the top call reads, prints and answers.
-use Rattle.std.specs.Prelude.{◌≡◌, ℕ, ◌+◌, ◌<◌, ◌==◌, List, [], ◌∷◌, ◌++◌, Bool, true, false, if◌then◌else◌, not, nat_lt, length, take, codes, None, Some, IfSome}
+use Rattle.std.specs.Prelude.{◌≡◌, ℕ, ◌+◌, ◌<◌, ◌==◌, List, [], ◌∷◌, ◌++◌, Bool, true}
+use Rattle.std.specs.Prelude.{false, if◌then◌else◌, not, nat_lt, length, take, codes, None, Some, IfSome}
 use Rattle.std.specs.List.{list_any}
 use Rattle.std.specs.declared.option.Option.{Option}
 use Rattle.std.specs.Option.{option_map}
@@ -7,9 +8,10 @@ use Rattle.source_io.specs.Files.{file_of}
 use Rattle.source_io.specs.Counts.{Rose, Grew}
 use Rattle.spark_messages.specs.declared.messages.Message.{Message}
 use Rattle.flow_driver.specs.declared.report.Report.{Report}
-use Rattle.flow_driver.specs.declared.report.TheConstants.{LIMIT}
+use Rattle.ada_lexer.specs.declared.lexing.TheConstants.{LIMIT}
 use Rattle.spark_messages.specs.Message.{is_grave}
 use Rattle.flow_driver.specs.Report.{IsReport}
+use Rattle.flow_driver.specs.Runs.{HaveCleanRuns}
 use Rattle.spark_messages.specs.Text.{text}
 
 -- a word that names a file does not begin with a dash
@@ -51,23 +53,24 @@ pub record GrewByPart {A : Type 0} (old : Option (List A)) (all : List A) (new :
   pub count : ℕ
   pub grew : Grew old (take count all) new
 
--- some sources were read, which are the told ones where the files are told; the whole text of their report was printed,
--- and the status is the verdict of that report
-pub record IsPrinted {D S : Type 0} (told : D → Option (List (List ℕ × List ℕ))) (gaps : D → Bool) (held : S → Option (List ℕ)) (names : List (List ℕ)) (status : ℕ) (files : D) (old new : S) : Type 0 where
+-- an analysis of the files of these names: the sources, which are the told ones where the files are told, and their report
+pub record Analysis {D : Type 0} (told : D → Option (List (List ℕ × List ℕ))) (gaps : D → Bool)
+    (names : List (List ℕ)) (files : D) : Type 0 where
   pub sources : List (List ℕ)
   pub report : Report
   pub are_told : AreSources (told files) (gaps files) names sources
   pub is_report : IsReport sources report
-  pub status_is : status ≡ verdict report
-  pub printed : Grew (held old) (text names report.messages) (held new)
 
--- some sources were read, which are the told ones where the files are told; a front part of the text of their report was printed
-pub record IsPartlyPrinted {D S : Type 0} (told : D → Option (List (List ℕ × List ℕ))) (gaps : D → Bool) (held : S → Option (List ℕ)) (names : List (List ℕ)) (files : D) (old new : S) : Type 0 where
-  pub sources : List (List ℕ)
-  pub report : Report
-  pub are_told : AreSources (told files) (gaps files) names sources
-  pub is_report : IsReport sources report
-  pub printed : GrewByPart (held old) (text names report.messages) (held new)
+module _ {D : Type 0} {told : D → Option (List (List ℕ × List ℕ))} {gaps : D → Bool} {names : List (List ℕ)} {files : D} where
+  -- the whole text of an analysis was printed, and the status is its verdict; where that is 0, its sources have clean runs
+  pub record IsPrinted (a : Analysis told gaps names files) (status : ℕ) (old new : Option (List ℕ)) : Type 0 where
+    pub printed : Grew old (text names a.report.messages) new
+    pub status_is : status ≡ verdict a.report
+    pub clean : status ≡ 0 → HaveCleanRuns a.sources
+
+  -- a front part of the text of an analysis was printed
+  abbrev pub IsPartlyPrinted : Analysis told gaps names files → Option (List ℕ) → Option (List ℕ) → Type 0
+  IsPartlyPrinted a old new = GrewByPart old (text names a.report.messages) new
 
 -- a front part of the line was put, and all of it unless a count rose
 pub record Complains {S : Type 0} (held : S → Option (List ℕ)) (faults wants : S → ℕ) (line : List ℕ) (old new : S) : Type 0 where

@@ -1,11 +1,12 @@
-ghost use Rattle.std.specs.Prelude.{◌≡◌, [], ◌∷◌, length, ◌⊎◌, ◌≤◌, ◌++◌, ◌↔◌, true, false, IsTrue, map, string_bytes, codes};
+ghost use Rattle.std.specs.Prelude.{◌≡◌, [], ◌∷◌, length, ◌⊎◌, ◌≤◌, ◌++◌, ◌↔◌, true, false, IsTrue, IfOk, map, string_bytes, codes};
 ghost use Rattle.source_io.specs.Counts.{Rose, Grew};
+ghost use Rattle.flow_driver.specs.Report.{IsReport};
 ghost use Rattle.flow_driver.specs.Run.{has_errors, verdict};
 ghost use Rattle.flow_driver.specs.Ending.{Prints, IsStatus, CountsReadFault, CountsWriteFault, AsksNames};
 
 use crate::{ReadFault, Report, read_all, report_of};
 use source_io::{Files, PrintFault, Sink, print_into};
-use spark_base::{Bytes, Items};
+use spark_base::{Bytes, Items, NoMemory};
 use spark_messages::{Message, text_of};
 use std::alloc::Global;
 
@@ -55,8 +56,16 @@ fn only_one(sources: Items<Bytes>) -> Bytes
     }
 }
 
-/// Reads the file of this one name, analyses it and prints.
+/// The report of some sources, of which there is one as yet.
 #[tactic(auto, unfolding(crate::specs::Report::IsReport))]
+fn report_of_all(alloc: Global, sources: Items<Bytes>) -> Result<Report, NoMemory>
+    requires { length sources ≡ 1 }
+    ensures { IfOk result (IsReport sources) }
+{
+    report_of(alloc, only_one(sources))
+}
+
+/// Reads the file of this one name, analyses it and prints.
 pub fn run<F: Files, K: Sink>(alloc: Global, names: &[String], files: &mut F, out: &mut K) -> Ending
     requires { length names.now ≡ 1 }
     ensures out { Prints F.told F.gaps K.held (map string_bytes names.now) files.old out.old out.new result }
@@ -70,7 +79,7 @@ pub fn run<F: Files, K: Sink>(alloc: Global, names: &[String], files: &mut F, ou
         Err(ReadFault::Failed { at }) => return Ending::CannotRead { at },
         Err(ReadFault::NoMemory) => return Ending::NoMemory,
     };
-    let Ok(report) = report_of(alloc, only_one(sources)) else {
+    let Ok(report) = report_of_all(alloc, sources) else {
         return Ending::NoMemory;
     };
     let Ok(text) = text_of(alloc, names, report.messages.as_slice()) else {

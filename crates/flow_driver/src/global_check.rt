@@ -2,14 +2,14 @@
 ghost use Rattle.std.specs.Prelude.{◌≡◌, ◌+◌, ◌++◌, ◌<◌, ◌≤◌, ◌^◌, [], ◌∷◌, Some, All, length, slice_get, IfOk, OnOk, IfSome, true, false, ◌||◌};
 ghost use Rattle.std.specs.Option.{option_copied};
 ghost use Rattle.core_form.specs.Fine.{IsFineItem, IsWellFormed};
-ghost use Rattle.flow_relations.specs.Sets.{Tells, either};
+ghost use Rattle.flow_bits.specs.Sets.{Tells, either};
 ghost use Rattle.flow_relations.specs.Told.{AreRowsSized};
 ghost use Rattle.flow_driver.specs.GlobalCheck as spec;
 ghost use Rattle.flow_driver.specs.GlobalCheck.{has, some_leaf, some_of, stays, mode_used};
 
 use core_form::{Body, Contract, GlobalItem, Item, Mode, Program, Var};
+use flow_bits::Row;
 use flow_relations::BodyRow;
-use flow_relations::rows::Row;
 use spark_base::{Bytes, ItemNo, Items, NoMemory, Span};
 use spark_messages::message_texts::{
     UsedMode, read_output_text, unlisted_text, written_input_text,

@@ -5,7 +5,7 @@ ghost use Rattle.run_laws.specs.Laws.{HasCleanRuns};
 ghost use Rattle.flow_driver.specs.Report.{HasReport, IsProgramOf};
 ghost use Rattle.flow_driver.specs.Run.{verdict};
 ghost use Rattle.flow_driver.specs.declared.report.Report.{Report};
-ghost use Rattle.flow_driver.specs.declared.report.TheConstants.{LIMIT};
+ghost use Rattle.ada_lexer.specs.declared.lexing.TheConstants.{LIMIT};
 
 /// A source that is too long has the report of its first bytes, one more than the most that a file may have.
 pub fn cut_sources()

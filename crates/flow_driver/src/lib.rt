@@ -12,5 +12,5 @@ mod top;
 
 pub use driver::{Ending, run};
 pub use reading::{ReadFault, read_all};
-pub use report::{LIMIT, Report, report_of};
+pub use report::{Report, report_of};
 pub use top::{run_clean, run_words};

@@ -17,9 +17,6 @@ use spark_messages::message_texts::outside_text;
 use spark_messages::{Code, Kind, Message, ordered};
 use std::alloc::Global;
 
-/// The most bytes that a file may have.
-pub const LIMIT: u32 = 4_194_304;
-
 /// What the analysis of a source says: its refusals, or else the messages of the flow.
 #[derive(Debug, Drop)]
 pub struct Report {

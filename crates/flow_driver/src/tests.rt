@@ -1,6 +1,6 @@
 // What the top call prints and answers, over files and sinks in memory.
-use crate::run_words;
-use source_io::{MemoryFiles, MemorySink, Open};
+use crate::{run_clean, run_words};
+use source_io::{CleanFiles, CleanSink, MemoryFiles, MemorySink, Open};
 use spark_base::Bytes;
 use std::alloc::{AllocError, Global};
 use std::test::Fail;
@@ -138,9 +138,65 @@ begin
 end Main;
 ";
 
-/// What is printed of a source that is outside the subset.
-const REFUSED: &[u8] =
-    b"inc.ada:1:1: refused: \"source\" is outside the subset [U01]\nsparkflow: 1 errors, 0 warnings\n";
+/// What is printed where there is nothing to tell.
+const SILENT: &str = "sparkflow: 0 errors, 0 warnings\n";
+
+/// What is printed of `inc.ada` where it is outside the subset.
+const REFUSED: &str =
+    "inc.ada:1:1: refused: \"source\" is outside the subset [U01]\nsparkflow: 1 errors, 0 warnings\n";
+
+/// The name of a file, its bytes, and the status and the text that come of it. Those of the examples in docs/MESSAGES.md
+/// are among them, in the very bytes that stand there.
+const SOURCES: [(&str, &str, u8, &str); 13] = [
+    ("inc.ada", COUNTER, 0, SILENT),
+    (
+        "inc.ada",
+        UNLISTED,
+        1,
+        "inc.ada:6:14: error: \"Counter.Count\" is In_Out in \"Counter.Inc\" but its Global does not list it [G01]\nsparkflow: 1 errors, 0 warnings\n",
+    ),
+    (
+        "p.ada",
+        USED,
+        1,
+        "p.ada:6:14: error: \"P.X\" is Input in \"P.Q\" but its Global does not list it [G01]\np.ada:6:14: error: \"P.Y\" is Output in \"P.Q\" but its Global does not list it [G01]\np.ada:6:14: error: \"P.Z\" is In_Out in \"P.Q\" but its Global does not list it [G01]\nsparkflow: 3 errors, 0 warnings\n",
+    ),
+    (
+        "inc.ada",
+        WRITTEN_INPUT,
+        1,
+        "inc.ada:3:43: error: \"Counter.Count\" is Input but \"Counter.Inc\" writes it [G02]\nsparkflow: 1 errors, 0 warnings\n",
+    ),
+    (
+        "inc.ada",
+        READ_OUTPUT,
+        1,
+        "inc.ada:3:44: error: \"Counter.Count\" is Output but \"Counter.Inc\" may read its initial value or leave it; it must be In_Out [G03]\nsparkflow: 1 errors, 0 warnings\n",
+    ),
+    (
+        "p.ada",
+        LEFT_OUTPUT,
+        1,
+        "p.ada:4:56: error: \"P.X\" is Output but \"P.Set\" may read its initial value or leave it; it must be In_Out [G03]\nsparkflow: 1 errors, 0 warnings\n",
+    ),
+    (
+        "p.ada",
+        TESTED_OUTPUT,
+        1,
+        "p.ada:4:56: error: \"P.X\" is Output but \"P.Set\" may read its initial value or leave it; it must be In_Out [G03]\nsparkflow: 1 errors, 0 warnings\n",
+    ),
+    ("p.ada", SET_OUTPUT, 0, SILENT),
+    (
+        "main.ada",
+        MAIN,
+        2,
+        "main.ada:1:1: refused: \"source\" is outside the subset [U01]\nsparkflow: 1 errors, 0 warnings\n",
+    ),
+    ("inc.ada", OUTSIDE, 2, REFUSED),
+    ("inc.ada", "", 2, REFUSED),
+    ("inc.ada", "\n", 2, REFUSED),
+    ("inc.ada", "package", 2, REFUSED),
+];
 
 fn words_of(alloc: Global, list: &[&str]) -> Result<Vec<String>, Fail> {
     let mut words = Vec::new(alloc);
@@ -150,12 +206,13 @@ fn words_of(alloc: Global, list: &[&str]) -> Result<Vec<String>, Fail> {
     Ok(words)
 }
 
-fn file_of(alloc: Global, source: &str, failing: &[u32]) -> Result<MemoryFiles, Fail> {
+/// One file.
+fn file_of(alloc: Global, name: &str, source: &str) -> Result<Vec<(Bytes, Bytes)>, Fail> {
     let mut list = Vec::new(alloc);
-    let name = Bytes::from_vec(Vec::from_slice(alloc, b"inc.ada")?);
-    let bytes = Bytes::from_vec(Vec::from_slice(alloc, source.as_bytes())?);
+    let name = Bytes::from_slice(alloc, name.as_bytes())?;
+    let bytes = Bytes::from_slice(alloc, source.as_bytes())?;
     list.push((name, bytes))?;
-    Ok(MemoryFiles::new(alloc, list, Vec::from_slice(alloc, failing)?))
+    Ok(list)
 }
 
 /// What a call answered, and what it put on its sinks.
@@ -166,16 +223,15 @@ struct Answer {
     err: MemorySink,
 }
 
-/// Calls `run_words` on one file, `inc.ada`, with a sink that takes so many bytes.
+/// Calls `run_words` on some files, with a sink that takes so many bytes.
 fn call(
     alloc: Global,
-    source: &str,
-    failing: &[u32],
+    files: MemoryFiles,
     words: &[&str],
     stop: Option<usize>,
 ) -> Result<Answer, Fail> {
     let words = words_of(alloc, words)?;
-    let mut files = file_of(alloc, source, failing)?;
+    let mut files = files;
     let mut out = MemorySink::new(alloc, stop);
     let mut err = MemorySink::new(alloc, None);
     let status = run_words(
@@ -189,71 +245,33 @@ fn call(
     Ok(Answer { status, out, err })
 }
 
-/// A source, and what is printed of it.
-fn printed(alloc: Global, source: &str) -> Result<Answer, Fail> {
-    call(alloc, source, &[], &["inc.ada"], None)
+/// Calls it on one file, `inc.ada`, of which the calls of these numbers fail.
+fn call_on_inc(
+    alloc: Global,
+    source: &str,
+    failing: &[u32],
+    words: &[&str],
+    stop: Option<usize>,
+) -> Result<Answer, Fail> {
+    let list = file_of(alloc, "inc.ada", source)?;
+    let files = MemoryFiles::new(alloc, list, Vec::from_slice(alloc, failing)?);
+    call(alloc, files, words, stop)
+}
+
+/// Calls it on one file of this name, which nothing keeps from being read and printed.
+fn printed(alloc: Global, name: &str, source: &str) -> Result<Answer, Fail> {
+    let files = MemoryFiles::new(alloc, file_of(alloc, name, source)?, Vec::new(alloc));
+    call(alloc, files, &[name], None)
 }
 
 #[test]
-fn counter_is_accepted(rt: HostRuntime) -> Result<(), Fail> {
-    let got = printed(rt.alloc(), COUNTER)?;
-    assert_eq!(rt; got.status, 0);
-    assert_eq!(rt;
-        got.out.as_slice(),
-        b"sparkflow: 0 errors, 0 warnings\n".as_slice()
-    );
-    assert_eq!(rt; got.err.as_slice(), b"".as_slice());
-    Ok(())
-}
-
-#[test]
-fn input_that_is_written(rt: HostRuntime) -> Result<(), Fail> {
-    let got = printed(rt.alloc(), WRITTEN_INPUT)?;
-    let want =
-        b"inc.ada:3:43: error: \"Counter.Count\" is Input but \"Counter.Inc\" writes it [G02]\nsparkflow: 1 errors, 0 warnings\n";
-    assert_eq!(rt; got.status, 1);
-    assert_eq!(rt; got.out.as_slice(), want.as_slice());
-    Ok(())
-}
-
-#[test]
-fn output_that_is_read(rt: HostRuntime) -> Result<(), Fail> {
-    let got = printed(rt.alloc(), READ_OUTPUT)?;
-    let want =
-        b"inc.ada:3:44: error: \"Counter.Count\" is Output but \"Counter.Inc\" may read its initial value or leave it; it must be In_Out [G03]\nsparkflow: 1 errors, 0 warnings\n";
-    assert_eq!(rt; got.status, 1);
-    assert_eq!(rt; got.out.as_slice(), want.as_slice());
-    Ok(())
-}
-
-#[test]
-fn output_that_one_path_leaves(rt: HostRuntime) -> Result<(), Fail> {
-    let got = printed(rt.alloc(), LEFT_OUTPUT)?;
-    let want =
-        b"inc.ada:4:56: error: \"P.X\" is Output but \"P.Set\" may read its initial value or leave it; it must be In_Out [G03]\nsparkflow: 1 errors, 0 warnings\n";
-    assert_eq!(rt; got.status, 1);
-    assert_eq!(rt; got.out.as_slice(), want.as_slice());
-    Ok(())
-}
-
-#[test]
-fn output_that_each_path_sets(rt: HostRuntime) -> Result<(), Fail> {
-    let got = printed(rt.alloc(), SET_OUTPUT)?;
-    assert_eq!(rt; got.status, 0);
-    assert_eq!(rt;
-        got.out.as_slice(),
-        b"sparkflow: 0 errors, 0 warnings\n".as_slice()
-    );
-    Ok(())
-}
-
-#[test]
-fn output_that_a_test_reads(rt: HostRuntime) -> Result<(), Fail> {
-    let got = printed(rt.alloc(), TESTED_OUTPUT)?;
-    let want =
-        b"inc.ada:4:56: error: \"P.X\" is Output but \"P.Set\" may read its initial value or leave it; it must be In_Out [G03]\nsparkflow: 1 errors, 0 warnings\n";
-    assert_eq!(rt; got.status, 1);
-    assert_eq!(rt; got.out.as_slice(), want.as_slice());
+fn sources_and_what_is_printed_of_them(rt: HostRuntime) -> Result<(), Fail> {
+    for (name, source, status, text) in SOURCES {
+        let got = printed(rt.alloc(), name, source)?;
+        assert_eq!(rt; got.status, status, "of {name}, where {text}");
+        assert_eq!(rt; got.out.as_slice(), text.as_bytes());
+        assert_eq!(rt; got.err.as_slice(), b"".as_slice());
+    }
     Ok(())
 }
 
@@ -274,48 +292,18 @@ fn with_ifs(alloc: Global, depth: usize) -> Result<String, AllocError> {
 #[test]
 fn open_ifs_have_a_limit(rt: HostRuntime) -> Result<(), Fail> {
     let deepest = with_ifs(rt.alloc(), 128)?;
-    let got = printed(rt.alloc(), deepest.as_str())?;
+    let got = printed(rt.alloc(), "inc.ada", deepest.as_str())?;
     assert_eq!(rt; got.status, 0);
     let deeper = with_ifs(rt.alloc(), 129)?;
-    let got = printed(rt.alloc(), deeper.as_str())?;
+    let got = printed(rt.alloc(), "inc.ada", deeper.as_str())?;
     assert_eq!(rt; got.status, 2);
-    assert_eq!(rt; got.out.as_slice(), REFUSED);
-    Ok(())
-}
-
-#[test]
-fn global_that_lists_nothing(rt: HostRuntime) -> Result<(), Fail> {
-    let got = printed(rt.alloc(), UNLISTED)?;
-    let want =
-        b"inc.ada:6:14: error: \"Counter.Count\" is In_Out in \"Counter.Inc\" but its Global does not list it [G01]\nsparkflow: 1 errors, 0 warnings\n";
-    assert_eq!(rt; got.status, 1);
-    assert_eq!(rt; got.out.as_slice(), want.as_slice());
-    Ok(())
-}
-
-#[test]
-fn used_modes_in_order(rt: HostRuntime) -> Result<(), Fail> {
-    let got = printed(rt.alloc(), USED)?;
-    let want =
-        b"inc.ada:6:14: error: \"P.X\" is Input in \"P.Q\" but its Global does not list it [G01]\ninc.ada:6:14: error: \"P.Y\" is Output in \"P.Q\" but its Global does not list it [G01]\ninc.ada:6:14: error: \"P.Z\" is In_Out in \"P.Q\" but its Global does not list it [G01]\nsparkflow: 3 errors, 0 warnings\n";
-    assert_eq!(rt; got.status, 1);
-    assert_eq!(rt; got.out.as_slice(), want.as_slice());
-    Ok(())
-}
-
-#[test]
-fn source_outside_the_subset(rt: HostRuntime) -> Result<(), Fail> {
-    for source in [OUTSIDE, MAIN, "", "\n", "package"] {
-        let got = printed(rt.alloc(), source)?;
-        assert_eq!(rt; got.status, 2);
-        assert_eq!(rt; got.out.as_slice(), REFUSED);
-    }
+    assert_eq!(rt; got.out.as_slice(), REFUSED.as_bytes());
     Ok(())
 }
 
 #[test]
 fn sink_that_stops_after_ten_bytes(rt: HostRuntime) -> Result<(), Fail> {
-    let got = call(rt.alloc(), WRITTEN_INPUT, &[], &["inc.ada"], Some(10))?;
+    let got = call_on_inc(rt.alloc(), WRITTEN_INPUT, &[], &["inc.ada"], Some(10))?;
     assert_eq!(rt; got.status, 5);
     assert_eq!(rt; got.out.as_slice(), b"inc.ada:3:".as_slice());
     assert_eq!(rt; got.err.as_slice(), b"sparkflow: write failed\n".as_slice());
@@ -326,7 +314,7 @@ fn sink_that_stops_after_ten_bytes(rt: HostRuntime) -> Result<(), Fail> {
 fn words_that_are_refused(rt: HostRuntime) -> Result<(), Fail> {
     let lists: [&[&str]; 3] = [&["-x"], &[], &["inc.ada", "inc.ada"]];
     for words in lists {
-        let got = call(rt.alloc(), COUNTER, &[], words, None)?;
+        let got = call_on_inc(rt.alloc(), COUNTER, &[], words, None)?;
         assert_eq!(rt; got.status, 3);
         assert_eq!(rt; got.out.as_slice(), b"".as_slice());
         assert_eq!(rt;
@@ -339,18 +327,38 @@ fn words_that_are_refused(rt: HostRuntime) -> Result<(), Fail> {
 
 #[test]
 fn file_that_cannot_be_read(rt: HostRuntime) -> Result<(), Fail> {
-    let absent = call(rt.alloc(), COUNTER, &[], &["b.ada"], None)?;
+    let absent = call_on_inc(rt.alloc(), COUNTER, &[], &["b.ada"], None)?;
     assert_eq!(rt; absent.status, 4);
     assert_eq!(rt; absent.out.as_slice(), b"".as_slice());
     assert_eq!(rt;
         absent.err.as_slice(),
         b"sparkflow: cannot read b.ada\n".as_slice()
     );
-    let failing = call(rt.alloc(), COUNTER, &[1], &["inc.ada"], None)?;
+    let failing = call_on_inc(rt.alloc(), COUNTER, &[1], &["inc.ada"], None)?;
     assert_eq!(rt; failing.status, 4);
     assert_eq!(rt;
         failing.err.as_slice(),
         b"sparkflow: cannot read inc.ada\n".as_slice()
     );
+    Ok(())
+}
+
+#[test]
+fn objects_that_never_fail(rt: HostRuntime) -> Result<(), Fail> {
+    let alloc = rt.alloc();
+    let words = words_of(alloc, &["inc.ada"])?;
+    let mut files = CleanFiles::new(alloc, file_of(alloc, "inc.ada", COUNTER)?);
+    let mut out = CleanSink::new(alloc);
+    let mut err = CleanSink::new(alloc);
+    let status = run_clean(
+        alloc,
+        words.as_slice(),
+        &mut files,
+        &mut out,
+        &mut err,
+        &Open,
+    );
+    assert_eq!(rt; status, 0);
+    assert_eq!(rt; out.as_slice(), SILENT.as_bytes());
     Ok(())
 }

@@ -1,8 +1,7 @@
 ghost use Rattle.std.specs.Prelude.{◌≡◌, ◌⊎◌, ◌≤◌, ◌↔◌, ℕ, true, false, map, string_bytes, codes};
-ghost use Rattle.source_io.specs.Clean.{files_told, bytes_held};
+ghost use Rattle.source_io.specs.Clean.{files_told, names_asked, bytes_held};
 ghost use Rattle.source_io.specs.Counts.{Rose};
-ghost use Rattle.flow_driver.specs.Run.{is_name, are_accepted, IsCountedBy, IsPrinted, IsPartlyPrinted, GrewByPart, Complains, unread_line};
-ghost use Rattle.flow_driver.specs.Runs.{IsReadClean};
+ghost use Rattle.flow_driver.specs.Run.{is_name, are_accepted, IsCountedBy, Analysis, IsPrinted, IsPartlyPrinted, GrewByPart, Complains, unread_line};
 ghost use Rattle.spark_messages.specs.Text.{name_at};
 ghost use Rattle.flow_driver.specs.Reading.{IsLastAsked};
 
@@ -68,15 +67,14 @@ pub fn run_words<F: Files, K: Sink, E: Sink, G: Turnstile>(
     ensures unread { IsCountedBy (result ≡ 4) (F.faults files.old) (F.faults files.new) }
     ensures unwritten { IsCountedBy (result ≡ 5) (K.faults out.old) (K.faults out.new) }
 
-    // What `out` gained.
-    ensures printed { result ≤ 2 → IsPrinted F.told F.gaps K.held (map string_bytes words.now) result files.old out.old out.new }
+    // What `out` gained, and what status 0 says of runs.
+    ensures printed { result ≤ 2 → (a : Analysis F.told F.gaps (map string_bytes words.now) files.old)
+        × IsPrinted a result (K.held out.old) (K.held out.new) }
     ensures untouched { (result ≡ 3) ⊎ (result ≡ 4) → K.held out.new ≡ K.held out.old }
-    ensures cut { result ≡ 5 → IsPartlyPrinted F.told F.gaps K.held (map string_bytes words.now) files.old out.old out.new }
+    ensures cut { result ≡ 5 → (a : Analysis F.told F.gaps (map string_bytes words.now) files.old)
+        × IsPartlyPrinted a (K.held out.old) (K.held out.new) }
     ensures given_up { result ≡ 6 → (K.held out.new ≡ K.held out.old)
-        ⊎ IsPartlyPrinted F.told F.gaps K.held (map string_bytes words.now) files.old out.old out.new }
-
-    // What a report without an error says of runs.
-    ensures clean { result ≡ 0 → IsReadClean F.told F.gaps (map string_bytes words.now) files.old }
+        ⊎ ((a : Analysis F.told F.gaps (map string_bytes words.now) files.old) × IsPartlyPrinted a (K.held out.old) (K.held out.new)) }
 
     // Which files were asked for.
     ensures asked { GrewByPart (F.asked files.old) (map string_bytes words.now) (F.asked files.new) }
@@ -126,11 +124,14 @@ pub fn run_clean<E: Sink, G: Turnstile>(
 ) -> u8
     ensures range { (result ≤ 3) ⊎ (result ≡ 6) }
     ensures words { (result ≡ 3) ↔ (are_accepted (map string_bytes words.now) ≡ false) }
-    ensures printed { result ≤ 2 → IsPrinted files_told (λ _. true) bytes_held (map string_bytes words.now) result files.old out.old out.new }
-    ensures clean { result ≡ 0 → IsReadClean files_told (λ _. true) (map string_bytes words.now) files.old }
+    ensures printed { result ≤ 2 → (a : Analysis files_told (λ _. true) (map string_bytes words.now) files.old)
+        × IsPrinted a result (bytes_held out.old) (bytes_held out.new) }
     ensures untouched { result ≡ 3 → bytes_held out.new ≡ bytes_held out.old }
     ensures given_up { result ≡ 6 → (bytes_held out.new ≡ bytes_held out.old)
-        ⊎ IsPartlyPrinted files_told (λ _. true) bytes_held (map string_bytes words.now) files.old out.old out.new }
+        ⊎ ((a : Analysis files_told (λ _. true) (map string_bytes words.now) files.old)
+        × IsPartlyPrinted a (bytes_held out.old) (bytes_held out.new)) }
+    ensures asked { GrewByPart (names_asked files.old) (map string_bytes words.now) (names_asked files.new) }
+    ensures none_asked { result ≡ 3 → names_asked files.new ≡ names_asked files.old }
     ensures silent { result ≤ 2 → E.held err.new ≡ E.held err.old }
     ensures words_line { result ≡ 3 → Complains E.held E.faults E.wants (codes "sparkflow: words refused\n") err.old err.new }
     ensures memory_line { result ≡ 6 → Complains E.held E.faults E.wants (codes "sparkflow: out of memory\n") err.old err.new }

@@ -5,7 +5,7 @@ use Rattle.core_form.specs.Code.{Outcome, Next, Leaves, Returns}
 use Rattle.flow_relations.specs.declared.flows.End.{End}
 use Rattle.flow_relations.specs.declared.flows.Outcome.{Outcome as EndOutcome}
 use Rattle.flow_relations.specs.declared.sides.Side.{Side}
-use Rattle.flow_relations.specs.Sets.{Relates}
+use Rattle.flow_bits.specs.Sets.{Relates}
 use Rattle.flow_relations.specs.Told.{AreEndsSized, IsSideSized, SomeEnd, ends_tell, no_side, outcome_of, side_of}
 use Rattle.flow_relations.proofs.Outcomes.{each_sized, reached_dep, reached_kept}
 use Rattle.std.proofs.lemmas.List.Elements.{All-append}

@@ -5,9 +5,9 @@ use Rattle.core_form.specs.Code.{Outcome, Next, Leaves, Returns}
 use Rattle.flow_relations.specs.declared.facts.Facts.{Facts}
 use Rattle.flow_relations.specs.declared.sides.Side.{Side}
 use Rattle.flow_relations.specs.Flow.{Flow, IsNarrow, IsSame, Splits, inside, loop}
-use Rattle.flow_relations.specs.Sets.{Has, Relates, Steps}
+use Rattle.flow_bits.specs.Sets.{Has, Relates, Steps}
 use Rattle.flow_relations.specs.Told.{IsRound, IsSideSized, AreSized, AtEach, no_side, side_at, side_of, told, told_by}
-use Rattle.flow_relations.proofs.Chains.{has_within, row_within}
+use Rattle.flow_relations.proofs.Within.{has_within, row_within}
 use Rattle.flow_relations.proofs.Loops.{closed, loop_closed}
 use Rattle.flow_relations.proofs.Same.{same_through}
 use Rattle.flow_relations.proofs.Outcomes.{each_sized, splits_same}

@@ -3,15 +3,15 @@ ghost use Rattle.core_form.specs.Code.{Code, code_of};
 ghost use Rattle.core_form.specs.Fine.{IsWellFormed, home_of};
 ghost use Rattle.flow_relations.specs.Equation.{IsLibrary, IsPassed, IsRowLeaf, equation, is_out, opened, plain_flow, starts_unset};
 ghost use Rattle.flow_relations.specs.Flow.{IsSame, clearing, row_of, seq};
-ghost use Rattle.flow_relations.specs.Sets.{Has, Relates, Tells, TellsPairs};
+ghost use Rattle.flow_bits.specs.Sets.{Has, Relates, Tells, TellsPairs};
 ghost use Rattle.flow_relations.specs.Told.{AreRowsSized, AreSized, HasRoom, IsRow, IsSideSized, told};
 
 use crate::facts::{Facts, prepend_clear};
 use crate::names::add_names;
-use crate::rows::{Row, Square};
 use crate::sides::{Side, add_cross, any, both};
 use crate::statements::{Room, facts_of, new_room, void_of};
 use core_form::{Formal, Home, ParamMode, Program};
+use flow_bits::{Row, Square};
 use spark_base::{BodyNo, LeafNo, NoMemory, VarNo};
 use std::alloc::Global;
 
@@ -237,7 +237,7 @@ fn row_from(alloc: Global, facts: Facts, named: Row) -> Result<BodyRow, NoMemory
 
 /// The row of a body by its code: its own leaves but the formals of modes in and in out begin unassigned.
 ///
-/// A program of more than 16,384 leaves is want of memory, since a square of flags takes a byte for each pair.
+/// A program of more than 46,336 names is want of memory, since a square has a bit for each pair.
 pub fn row_of_body(alloc: Global, program: &Program, body: BodyNo) -> Result<BodyRow, NoMemory>
     requires fine { IsWellFormed program.now }
     requires in_range { body.0 < length program.now.bodies }

@@ -1,14 +1,14 @@
 ghost use Rattle.std.specs.Prelude.{◌≡◌, ◌≢◌, ℕ, ◌+◌, ◌<◌, ◌≤◌, ◌^◌, ◌⊎◌, ◌↔◌, length, IfOk, OnOk, IsTrue, true, All, slice_index_or, []};
 ghost use Rattle.core_form.specs.Code.{Outcome, Next, Leaves, Returns};
 ghost use Rattle.flow_relations.specs.Flow.{IsSame, IsNarrow, Splits, nowhere, leaving, moving, changing, clearing, seq, branch, loop};
-ghost use Rattle.flow_relations.specs.Sets.{Has, Relates, Tells, TellsPairs, Steps};
+ghost use Rattle.flow_bits.specs.Sets.{Has, Relates, Tells, TellsPairs, Steps};
 ghost use Rattle.flow_relations.specs.Told.{AreSized, IsBehind, IsSideSized, no_side, side_at, step_flow, told};
 
-use crate::rows::{Row, Square};
 use crate::sides::{
     Change, Side, add_pairs, choose, either_leaves, either_side, leave_sides, no_side, pad,
     round_leaves, round_side, same_side, step_leaves, step_side, then_leaves, then_side,
 };
+use flow_bits::{Row, Square};
 use spark_base::NoMemory;
 use std::alloc::Global;
 

@@ -7,10 +7,10 @@ ghost use Rattle.flow_relations.specs.declared.flows.Outcome.{Outcome};
 ghost use Rattle.flow_relations.specs.Told.{AreSized, AreFlowSized, told, flow_told, ends_tell, side_at};
 
 use crate::facts::Facts;
-use crate::rows::{Row, Square};
 use crate::sides::Side;
 use crate::statements::{facts_of, new_room, void_of};
 use core_form::Program;
+use flow_bits::{Row, Square};
 use smallvec::SmallVec;
 use spark_base::{BodyNo, NoMemory};
 use std::alloc::Global;
@@ -60,7 +60,7 @@ impl MadeWith<Global> for End {
 
 /// The flow of the code of a body. Its rows have a place for each leaf and one more, for "not assigned".
 ///
-/// A program of more than 16,384 leaves is want of memory, since a square of flags takes a byte for each pair.
+/// A program of more than 46,336 names is want of memory, since a square has a bit for each pair.
 pub fn flow_of(alloc: Global, program: &Program, body: BodyNo) -> Result<Flow, NoMemory>
     requires fine { IsWellFormed program.now }
     requires in_range { body.0 < length program.now.bodies }

@@ -7,7 +7,6 @@ mod flows;
 pub mod laws;
 mod names;
 mod reads;
-pub mod rows;
 mod sides;
 mod statements;
 

@@ -1,3 +1,5 @@
+ghost use Rattle.std.specs.Prelude.{◌<◌};
+
 // Random code with loops, exits and returns against the definition unrolled.
 use crate::samples::{assign, has, list, program, read, relates};
 use crate::unrolled::{

@@ -1,9 +1,9 @@
 // Programs with one body, built by hand.
-use crate::rows::{Row, Square};
 use core_form::{
     Body, BodyKind, CoreExpr, CoreStmt, Formal, Home, Leaf, Package, Part, Place, Program, Sharing,
     States, Var,
 };
+use flow_bits::{Row, Square};
 use spark_base::{
     Bytes, ExprNo, FileNo, Items, LeafNo, NoMemory, PackageNo, Pos, Span, StmtNo, VarNo,
 };

@@ -1,10 +1,10 @@
 ghost use Rattle.std.specs.Prelude.{◌≡◌, ◌≢◌, ℕ, ◌+◌, ◌<◌, ◌≤◌, ◌^◌, ◌⊎◌, ◌↔◌, length, All, IfOk, OnOk, IsTrue, true, slice_index_or, List, [], vec_len};
 ghost use Rattle.core_form.specs.Code.{Next};
 ghost use Rattle.flow_relations.specs.Flow.{Splits, moving, changing, clearing};
-ghost use Rattle.flow_relations.specs.Sets.{Has, Relates, Tells, TellsPairs};
+ghost use Rattle.flow_bits.specs.Sets.{Has, Relates, Tells, TellsPairs};
 ghost use Rattle.flow_relations.specs.Told.{IsSideSized, IsBehind, IsThen, IsEither, IsRound, AtEach, can_of, no_side, step_flow};
 
-use crate::rows::{Row, Square};
+use flow_bits::{Row, Square};
 use spark_base::NoMemory;
 use std::alloc::Global;
 

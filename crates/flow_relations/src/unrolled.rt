@@ -1,3 +1,5 @@
+ghost use Rattle.std.specs.Prelude.{◌<◌, ◌≤◌};
+
 // Flows over so few names that a set is a word: the definition, with loops as unions of their unrollings.
 
 /// Five leaves, and "not assigned".

@@ -18,6 +18,7 @@ use Rattle.spark_messages.specs.contracts.messages.MessageOrd.TheImpl as ord
 use Rattle.spark_messages.specs.contracts.messages.KindOrd.TheImpl as kind
 use Rattle.spark_messages.specs.contracts.messages.MessagePartialEq.TheImpl as eq
 use Rattle.spark_messages.specs.contracts.messages.MessageOrd.TheImpl.Laws as laws
+use Rattle.spark_messages.proofs.Bools.{both}
 use Rattle.spark_messages.proofs.SameList.{same_list}
 use Rattle.std.specs.Cmp.{IsTotalOrder}
 use Rattle.spark_messages.specs.contracts.messages.MessageEq.TheImpl.Laws as eq_laws
@@ -50,10 +51,6 @@ cmp-is m n = rw (kind_cmp-is m.kind n.kind) refl
 -- a list in the derived order is in order
 pub in_order : (list : List Message) → IsStrictlySortedBy cmp list → IsStrictlySortedBy order list
 in_order list h = subst (λ (R : Message → Message → Ordering). IsStrictlySortedBy R list) (fun_ext (λ m. fun_ext (λ n. cmp-is m n))) h
-
-both : (a b : Bool) → (a && b) ≡ true → (a ≡ true) × (b ≡ true)
-both true b h = (refl, h)
-both false b h = cc
 
 -- the code of a text
 abbrev code_named : List ℕ → Code

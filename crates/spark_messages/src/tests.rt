@@ -80,7 +80,7 @@ fn texts_of_calls_and_dependencies(rt: HostRuntime) -> Result<(), Fail> {
 }
 
 #[test]
-fn texts_of_assignment_and_globals(rt: HostRuntime) -> Result<(), Fail> {
+fn texts_of_assignment(rt: HostRuntime) -> Result<(), Fail> {
     let alloc = rt.alloc();
     assert!(rt;
         reads(
@@ -94,6 +94,12 @@ fn texts_of_assignment_and_globals(rt: HostRuntime) -> Result<(), Fail> {
             "out parameter \"X\" might not be assigned when \"P.Q\" returns"
         )?
     );
+    Ok(())
+}
+
+#[test]
+fn texts_of_globals(rt: HostRuntime) -> Result<(), Fail> {
+    let alloc = rt.alloc();
     assert!(rt;
         reads(
             unlisted_text(alloc, b"X", UsedMode::InOut, b"P.Q"),
@@ -124,6 +130,12 @@ fn texts_of_assignment_and_globals(rt: HostRuntime) -> Result<(), Fail> {
             "function \"X\" writes \"P.Q\""
         )?
     );
+    Ok(())
+}
+
+#[test]
+fn texts_of_elaboration(rt: HostRuntime) -> Result<(), Fail> {
+    let alloc = rt.alloc();
     assert!(rt;
         reads(
             unassigned_initial_text(alloc, b"X"),
@@ -176,6 +188,12 @@ fn texts_of_names(rt: HostRuntime) -> Result<(), Fail> {
         )?
     );
     assert!(rt; reads(wrong_actuals_text(alloc, b"X"), "wrong actuals for \"X\"")?);
+    Ok(())
+}
+
+#[test]
+fn texts_of_rules(rt: HostRuntime) -> Result<(), Fail> {
+    let alloc = rt.alloc();
     assert!(rt;
         reads(
             not_in_contract_text(alloc, b"X"),
@@ -200,7 +218,7 @@ fn texts_of_names(rt: HostRuntime) -> Result<(), Fail> {
 }
 
 #[test]
-fn texts_of_refinement_and_tasking(rt: HostRuntime) -> Result<(), Fail> {
+fn texts_of_refinement(rt: HostRuntime) -> Result<(), Fail> {
     let alloc = rt.alloc();
     assert!(rt;
         reads(
@@ -239,6 +257,12 @@ fn texts_of_refinement_and_tasking(rt: HostRuntime) -> Result<(), Fail> {
             "\"X\" => \"P.Q\" is not in Refined_Depends"
         )?
     );
+    Ok(())
+}
+
+#[test]
+fn texts_of_tasking(rt: HostRuntime) -> Result<(), Fail> {
+    let alloc = rt.alloc();
     assert!(rt;
         reads(
             unsynchronised_text(alloc, b"X", b"Y", b"P.Q"),

@@ -32,7 +32,8 @@ FindsUnit part ts cursor u n d (Err e) = Fails part ts cursor e
 
 -- these trees are those of the units that were added behind all that were there
 abbrev pub AddsUnits : Units → Units → List Tree → Type 0
-AddsUnits old new ts = (before : List Tree) → Stands old (unit_refs (length old.units)) before → Stands new (unit_refs (length new.units)) (before ++ ts)
+AddsUnits old new ts =
+    (before : List Tree) → Stands old (unit_refs (length old.units)) before → Stands new (unit_refs (length new.units)) (before ++ ts)
 
 -- From the start on, a file was read as far as this, and units were added.
 pub record SoFar (ts : List Lexeme) (start : Cursor) (old now : Units) (p : Progress) : Type 0 where

@@ -48,8 +48,10 @@ pub data IsRefused (tokens : Tokens) (m : Message) : Type 0 where
 -- what is said of each file: the units of those that are read, and the refusals of the others, in the order of the files
 pub data Told : List Tokens → List Tree → List Message → Type 0 where
   nothing : Told [] [] []
-  reads : {tokens : Tokens} {units more : List Tree} {all : List Tokens} {ms : List Message} → IsFile tokens units → Told all more ms → Told (tokens ∷ all) (units ++ more) ms
-  refuses : {tokens : Tokens} {m : Message} {units : List Tree} {all : List Tokens} {ms : List Message} → IsRefused tokens m → Told all units ms → Told (tokens ∷ all) units (m ∷ ms)
+  reads : {tokens : Tokens} {units more : List Tree} {all : List Tokens} {ms : List Message}
+      → IsFile tokens units → Told all more ms → Told (tokens ∷ all) (units ++ more) ms
+  refuses : {tokens : Tokens} {m : Message} {units : List Tree} {all : List Tokens} {ms : List Message}
+      → IsRefused tokens m → Told all units ms → Told (tokens ∷ all) units (m ∷ ms)
 
 -- each file was read, the units are those of all of them, and all nodes are ordered, also those that no unit has
 pub record AreRead (all : List Tokens) (u : Units) : Type 0 where

@@ -1,6 +1,6 @@
 package Counter is
    Count : Integer := 0;
-   procedure Inc with Global => (In_Out => Count);
+   procedure Inc with Global => (Input => Count);
 end Counter;
 package body Counter is
    procedure Inc is

@@ -82,31 +82,31 @@ pub statement-returns-in-Case-clause-goes : goal.statement-returns-in-Case-claus
 statement-returns-in-Case-clause-goes t c = goes_on (lexemes c.args.tokens.now) c.args.cursor c.args.cursor _ (omega arith) c.case_statement.ensures.goes
 
 pub statement-returns-in-While-clause-reads : goal.statement-returns-in-While-clause-reads
-statement-returns-in-While-clause-reads t c = λ ds hd. of_form (λ z. (parts.Statement z (lexeme c.args.tokens.now.source c.args.first) ds)) (lexemes c.args.tokens.now) c.args.cursor _ _ _ (sym c.statement_form.ensures ∙ c.in-While.is) (finds_last (lexemes c.args.tokens.now) c.args.cursor c.args.cursor _ _ _ (start (parts.Statement statements.While (lexeme c.args.tokens.now.source c.args.first) ds) _) (omega arith) refl (c.while_loop.ensures.reads _ _ (c.new-own.ensures _ hd.ordered) hd))
+statement-returns-in-While-clause-reads t c = λ ds hd. of_form (λ z. (parts.Statement z (lexeme c.args.tokens.now.source c.args.first) ds)) (lexemes c.args.tokens.now) c.args.cursor _ _ _ (sym c.statement_form.ensures ∙ c.in-While.is) (finds_last (lexemes c.args.tokens.now) c.args.cursor c.args.cursor _ _ _ (start (parts.Statement statements.While (lexeme c.args.tokens.now.source c.args.first) ds) _) (omega arith) refl (c.while_loop.ensures.reads _ _ (c.new.ensures _ hd.ordered) hd))
 
 pub statement-returns-in-While-clause-goes : goal.statement-returns-in-While-clause-goes
 statement-returns-in-While-clause-goes t c = goes_on (lexemes c.args.tokens.now) c.args.cursor c.args.cursor _ (omega arith) c.while_loop.ensures.goes
 
 pub statement-returns-in-For-clause-reads : goal.statement-returns-in-For-clause-reads
-statement-returns-in-For-clause-reads t c = λ ds hd. of_form (λ z. (parts.Statement z (lexeme c.args.tokens.now.source c.args.first) ds)) (lexemes c.args.tokens.now) c.args.cursor _ _ _ (sym c.statement_form.ensures ∙ c.in-For.is) (finds_last (lexemes c.args.tokens.now) c.args.cursor c.args.cursor _ _ _ (start (parts.Statement statements.For (lexeme c.args.tokens.now.source c.args.first) ds) _) (omega arith) refl (c.for_loop.ensures.reads _ _ (c.new-own-in-For.ensures _ hd.ordered) hd))
+statement-returns-in-For-clause-reads t c = λ ds hd. of_form (λ z. (parts.Statement z (lexeme c.args.tokens.now.source c.args.first) ds)) (lexemes c.args.tokens.now) c.args.cursor _ _ _ (sym c.statement_form.ensures ∙ c.in-For.is) (finds_last (lexemes c.args.tokens.now) c.args.cursor c.args.cursor _ _ _ (start (parts.Statement statements.For (lexeme c.args.tokens.now.source c.args.first) ds) _) (omega arith) refl (c.for_loop.ensures.reads _ _ (c.new-in-For.ensures _ hd.ordered) hd))
 
 pub statement-returns-in-For-clause-goes : goal.statement-returns-in-For-clause-goes
 statement-returns-in-For-clause-goes t c = goes_on (lexemes c.args.tokens.now) c.args.cursor c.args.cursor _ (omega arith) c.for_loop.ensures.goes
 
 pub statement-returns-in-Loop-clause-reads : goal.statement-returns-in-Loop-clause-reads
-statement-returns-in-Loop-clause-reads t c = λ ds hd. of_form (λ z. (parts.Statement z (lexeme c.args.tokens.now.source c.args.first) ds)) (lexemes c.args.tokens.now) c.args.cursor _ _ _ (sym c.statement_form.ensures ∙ c.in-Loop.is) (finds_last (lexemes c.args.tokens.now) c.args.cursor c.args.cursor _ _ _ (start (parts.Statement statements.Loop (lexeme c.args.tokens.now.source c.args.first) ds) _) (omega arith) refl (c.loop_body.ensures.reads _ _ (c.new-own-in-Loop.ensures _ hd.ordered) hd))
+statement-returns-in-Loop-clause-reads t c = λ ds hd. of_form (λ z. (parts.Statement z (lexeme c.args.tokens.now.source c.args.first) ds)) (lexemes c.args.tokens.now) c.args.cursor _ _ _ (sym c.statement_form.ensures ∙ c.in-Loop.is) (finds_last (lexemes c.args.tokens.now) c.args.cursor c.args.cursor _ _ _ (start (parts.Statement statements.Loop (lexeme c.args.tokens.now.source c.args.first) ds) _) (omega arith) refl (c.loop_body.ensures.reads _ _ (c.new-in-Loop.ensures _ hd.ordered) hd))
 
 pub statement-returns-in-Loop-clause-goes : goal.statement-returns-in-Loop-clause-goes
 statement-returns-in-Loop-clause-goes t c = goes_on (lexemes c.args.tokens.now) c.args.cursor c.args.cursor _ (omega arith) c.loop_body.ensures.goes
 
 pub statement-returns-in-Declare-clause-reads : goal.statement-returns-in-Declare-clause-reads
-statement-returns-in-Declare-clause-reads t c = λ ds hd. of_form (λ z. (parts.Statement z (lexeme c.args.tokens.now.source c.args.first) ds)) (lexemes c.args.tokens.now) c.args.cursor _ _ _ (sym c.statement_form.ensures ∙ c.in-Declare.is) (finds_last (lexemes c.args.tokens.now) c.args.cursor c.args.cursor _ _ _ (start (parts.Statement statements.Declare (lexeme c.args.tokens.now.source c.args.first) ds) _) (omega arith) refl (c.declare_block.ensures.reads _ _ (c.new-own-in-Declare.ensures _ hd.ordered) hd))
+statement-returns-in-Declare-clause-reads t c = λ ds hd. of_form (λ z. (parts.Statement z (lexeme c.args.tokens.now.source c.args.first) ds)) (lexemes c.args.tokens.now) c.args.cursor _ _ _ (sym c.statement_form.ensures ∙ c.in-Declare.is) (finds_last (lexemes c.args.tokens.now) c.args.cursor c.args.cursor _ _ _ (start (parts.Statement statements.Declare (lexeme c.args.tokens.now.source c.args.first) ds) _) (omega arith) refl (c.declare_block.ensures.reads _ _ (c.new-in-Declare.ensures _ hd.ordered) hd))
 
 pub statement-returns-in-Declare-clause-goes : goal.statement-returns-in-Declare-clause-goes
 statement-returns-in-Declare-clause-goes t c = goes_on (lexemes c.args.tokens.now) c.args.cursor c.args.cursor _ (omega arith) c.declare_block.ensures.goes
 
 pub statement-returns-in-Begin-clause-reads : goal.statement-returns-in-Begin-clause-reads
-statement-returns-in-Begin-clause-reads t c = λ ds hd. of_form (λ z. (parts.Statement z (lexeme c.args.tokens.now.source c.args.first) ds)) (lexemes c.args.tokens.now) c.args.cursor _ _ _ (sym c.statement_form.ensures ∙ c.in-Begin.is) (finds_last (lexemes c.args.tokens.now) c.args.cursor c.args.cursor _ _ _ (start (parts.Statement statements.Begin (lexeme c.args.tokens.now.source c.args.first) ds) _) (omega arith) refl (c.block_body.ensures.reads _ _ (c.new-own-in-Begin.ensures _ hd.ordered) hd))
+statement-returns-in-Begin-clause-reads t c = λ ds hd. of_form (λ z. (parts.Statement z (lexeme c.args.tokens.now.source c.args.first) ds)) (lexemes c.args.tokens.now) c.args.cursor _ _ _ (sym c.statement_form.ensures ∙ c.in-Begin.is) (finds_last (lexemes c.args.tokens.now) c.args.cursor c.args.cursor _ _ _ (start (parts.Statement statements.Begin (lexeme c.args.tokens.now.source c.args.first) ds) _) (omega arith) refl (c.block_body.ensures.reads _ _ (c.new-in-Begin.ensures _ hd.ordered) hd))
 
 pub statement-returns-in-Begin-clause-goes : goal.statement-returns-in-Begin-clause-goes
 statement-returns-in-Begin-clause-goes t c = goes_on (lexemes c.args.tokens.now) c.args.cursor c.args.cursor _ (omega arith) c.block_body.ensures.goes

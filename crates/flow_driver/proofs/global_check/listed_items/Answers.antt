@@ -2,7 +2,7 @@ use Rattle.std.proofs.Common.{◌≡◌, ◌+◌, ◌<◌, ◌∷◌, length, dr
 use Rattle.std.proofs.Math.Seq.{drop-cons}
 use Rattle.core_form.specs.declared.contract.GlobalItem.{GlobalItem}
 use Rattle.core_form.specs.declared.contract.Mode.TheVariants as modes
-use Rattle.flow_relations.specs.Sets.{Has}
+use Rattle.flow_bits.specs.Sets.{Has}
 use Rattle.flow_driver.proofs.Leaves.{listed_more}
 use Rattle.flow_driver.proofs.global_check.listed_items.Goals as goal
 

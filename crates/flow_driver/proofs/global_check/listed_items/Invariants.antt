@@ -1,5 +1,5 @@
 use Rattle.std.proofs.Common.{◌≡◌, ℕ, ◌⊎◌, ◌↔◌, true, length, drop}
-use Rattle.flow_relations.specs.Sets.{Has}
+use Rattle.flow_bits.specs.Sets.{Has}
 use Rattle.flow_driver.specs.GlobalCheck.{is_listed}
 use Rattle.flow_driver.proofs.global_check.listed_items.Given as goal
 

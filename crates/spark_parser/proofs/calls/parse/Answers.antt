@@ -4,7 +4,7 @@ use Rattle.spark_parser.proofs.ToldFiles.{are_read, are_refused, files_on, no_fi
 use Rattle.spark_parser.proofs.calls.parse.Goals as goal
 
 pub loop-tokens-init : goal.loop-tokens-init
-loop-tokens-init c = no_files c.new.ensures.ordered (ap (λ (z : Units). z.units) c.new.ensures.empty) c.new-refusals.ensures
+loop-tokens-init c = no_files c.new-units.ensures.ordered (ap (λ (z : Units). z.units) c.new-units.ensures.empty) c.new-refusals.ensures
 
 pub loop-tokens-preserved : goal.loop-tokens-preserved
 loop-tokens-preserved c = files_on c.args.all.now c.loop-tokens.tokens-index c.tokens-item.result c.tokens-item.is c.loop-tokens-test.true c.loop-tokens.invariant c.in_ok-add_file.ensures

@@ -1,0 +1,5 @@
+use Rattle.flow_bits.specs.Words.{IsJoined}
+use Rattle.flow_bits.proofs.words.join_rest.Given as goal
+
+abbrev pub invariant-loop-k : goal.invariant-loop-k
+invariant-loop-k l = IsJoined l.at l.start l.k l.initial.into l.from l.into l.more
