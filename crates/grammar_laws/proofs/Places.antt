@@ -1,10 +1,6 @@
 -- What the limits know at a place among statements and declarations, and what a token does to it.
-use Rattle.std.proofs.Common.{◌≡◌, ◌⊎◌, inl, inr, ℕ, zero, suc, ◌+◌, ◌-◌, ◌<◌, ◌≤◌, Bool, true, false, not, ◌&&◌, ◌||◌, if◌then◌else◌, nat_lt, nat_eq, nat_le, List, [], ◌∷◌, ◌++◌, Option, Some, None, refl, sym, ◌∙◌, ap, subst, arith}
-use Rattle.std.proofs.lemmas.Bool.{ltb-false, ltb-true, eqb-true, leb-true, leb-false, le-ltb, ne_eqb}
-use Rattle.ada_tree.specs.declared.token.Mark.{Mark}
-use Rattle.ada_tree.specs.declared.token.Mark.TheVariants as marks
-use Rattle.ada_tree.specs.declared.words.Reserved.{Reserved}
-use Rattle.ada_tree.specs.declared.words.Reserved.TheVariants as words
+use Rattle.std.proofs.Common.{◌≡◌, ◌⊎◌, inl, inr, ℕ, zero, suc, ◌+◌, ◌-◌, ◌<◌, ◌≤◌, Bool, true, false, not, ◌&&◌, if◌then◌else◌, nat_lt, nat_eq, nat_le, Option, Some, None, refl, sym, ◌∙◌, ap, subst, arith}
+use Rattle.std.proofs.lemmas.Bool.{ltb-true, leb-true, leb-false, ne_eqb}
 use Rattle.ada_grammar.specs.declared.tokens.Last.{Last}
 use Rattle.ada_grammar.specs.declared.tokens.Last.TheVariants as lasts
 use Rattle.ada_grammar.specs.declared.tokens.LoopHead.{LoopHead}
@@ -15,7 +11,7 @@ use Rattle.ada_grammar.specs.declared.weights.Weight.TheVariants as weights
 use Rattle.ada_grammar.specs.Limits as limits
 use Rattle.ada_grammar.specs.Limits.{most_operators, most_open, most_compounds, most_loops, with_last, with_open, with_count, with_depth, with_statements, with_skips, weighed, ended, counts, counted, member, outside, anew, is_end, is_and, is_or, is_not, is_is, is_tick, is_parameter, is_headed, in_for_head}
 use Rattle.grammar_laws.proofs.Tracks.{Known}
-use Rattle.grammar_laws.proofs.Tests.{if_true, if_false, if_same, none_some, some_same, went, and_parts, not_true}
+use Rattle.grammar_laws.proofs.Tests.{if_true, if_false, if_same, some_same, went, and_parts, not_true}
 
 -- what is known: whether tokens are skipped, whether the depth is known from the ground, how many parentheses, compound
 -- statements and loops are open beside those from before, the head of a loop, whether in statements, the last token where
@@ -256,9 +252,9 @@ plain_operator c l d s y n m t h k f g = let p = went (nat_lt n.operators most_o
 
 plain_divides : Plain weights.Divides
 plain_divides c l d s y n m t h k f g = elim (either (is_is n.last) (Some n) (counted n) m (sym (if_false n.skips (Some n) (limits.divided n) (no_skip c l d s n t h)) ∙ g)) [
-    inl p ↦ give c l d s y n m (Some n) f refl p.1 t
-    | inr p ↦ let q = went (nat_lt n.operators most_operators) (Some (with_count n (n.operators + 1) n.parted)) m p.1 in
-        give c l d s y (with_count n (n.operators + 1) n.parted) m (Some (with_count n (n.operators + 1) n.parted)) f refl q.1 (held_more c l d s n t q.0)
+  | inl p ↦ give c l d s y n m (Some n) f refl p.1 t
+  | inr p ↦ let q = went (nat_lt n.operators most_operators) (Some (with_count n (n.operators + 1) n.parted)) m p.1 in
+      give c l d s y (with_count n (n.operators + 1) n.parted) m (Some (with_count n (n.operators + 1) n.parted)) f refl q.1 (held_more c l d s n t q.0)
 ]
 
 plain_dots : Plain weights.Dots
@@ -306,23 +302,23 @@ plain_contains : Plain weights.Contains
 plain_contains c l d s y n m t h k f g =
     let e : limits.contained n ≡ Some m = sym (if_false n.skips (Some n) (limits.contained n) (no_skip c l d s n t h)) ∙ g in
     elim (either (is_parameter s.head) (if at_ground s then Some (renewed (record s { head = heads.Scheme })) else None) (Some s) y f) [
-        inl p ↦
-            let q = went (at_ground s) (Some (renewed (record s { head = heads.Scheme }))) y p.1 in
-            let stands : in_for_head n ≡ true = if_true (nat_eq n.depth 0) (is_parameter n.head) false (ground_depth c l d s n t q.0) ∙ (ap is_parameter t.head ∙ p.0) in
-            give c l d (renewed (record s { head = heads.Scheme })) y (anew (with_open n n.compounds n.loops heads.Scheme)) m (limits.contained n) q.1
-                (if_true (in_for_head n) (Some (anew (with_open n n.compounds n.loops heads.Scheme))) (if is_not n.last then Some (member n) else counted (member n)) stands) e
-                (record { depth = t.depth; compounds = t.compounds; loops = t.loops; head = refl; in_statements = t.in_statements; skips = t.skips; parted = omega arith; operators = omega arith; ground = t.ground })
-        | inr p ↦
-            let stands : in_for_head n ≡ false = no_head (nat_eq n.depth 0) (is_parameter n.head) (ap is_parameter t.head ∙ p.0) in
-            let i : (if is_not n.last then Some (member n) else counted (member n)) ≡ Some m =
-                sym (if_false (in_for_head n) (Some (anew (with_open n n.compounds n.loops heads.Scheme))) (if is_not n.last then Some (member n) else counted (member n)) stands) ∙ e in
-            elim (either (is_not n.last) (Some (member n)) (counted (member n)) m i) [
-                inl q ↦ give c l d s y (member n) m (Some (member n)) p.1 refl q.1 (held_member c l d s n t)
-                | inr q ↦
-                    let j = went (nat_lt (member n).operators most_operators) (Some (with_count (member n) ((member n).operators + 1) (member n).parted)) m q.1 in
-                    give c l d s y (with_count (member n) ((member n).operators + 1) (member n).parted) m (Some (with_count (member n) ((member n).operators + 1) (member n).parted)) p.1 refl j.1
-                        (held_more c l d s (member n) (held_member c l d s n t) j.0)
-            ]
+      | inl p ↦
+          let q = went (at_ground s) (Some (renewed (record s { head = heads.Scheme }))) y p.1 in
+          let stands : in_for_head n ≡ true = if_true (nat_eq n.depth 0) (is_parameter n.head) false (ground_depth c l d s n t q.0) ∙ (ap is_parameter t.head ∙ p.0) in
+          give c l d (renewed (record s { head = heads.Scheme })) y (anew (with_open n n.compounds n.loops heads.Scheme)) m (limits.contained n) q.1
+          (if_true (in_for_head n) (Some (anew (with_open n n.compounds n.loops heads.Scheme))) (if is_not n.last then Some (member n) else counted (member n)) stands) e
+          (record { depth = t.depth; compounds = t.compounds; loops = t.loops; head = refl; in_statements = t.in_statements; skips = t.skips; parted = omega arith; operators = omega arith; ground = t.ground })
+      | inr p ↦
+          let stands : in_for_head n ≡ false = no_head (nat_eq n.depth 0) (is_parameter n.head) (ap is_parameter t.head ∙ p.0) in
+          let i : (if is_not n.last then Some (member n) else counted (member n)) ≡ Some m =
+          sym (if_false (in_for_head n) (Some (anew (with_open n n.compounds n.loops heads.Scheme))) (if is_not n.last then Some (member n) else counted (member n)) stands) ∙ e in
+          elim (either (is_not n.last) (Some (member n)) (counted (member n)) m i) [
+            | inl q ↦ give c l d s y (member n) m (Some (member n)) p.1 refl q.1 (held_member c l d s n t)
+            | inr q ↦
+                let j = went (nat_lt (member n).operators most_operators) (Some (with_count (member n) ((member n).operators + 1) (member n).parted)) m q.1 in
+                give c l d s y (with_count (member n) ((member n).operators + 1) (member n).parted) m (Some (with_count (member n) ((member n).operators + 1) (member n).parted)) p.1 refl j.1
+                (held_more c l d s (member n) (held_member c l d s n t) j.0)
+          ]
     ]
   where
     no_head : (a b : Bool) → b ≡ false → (if a then b else false) ≡ false
@@ -352,8 +348,8 @@ plain_branches c l d s y n m t h k f g =
     let p = went (at_ground s) (if was_end s.last then Some (renewed s) else Some (renewed (record s { opened = s.opened + 1 }))) y f in
     let e : limits.begun n weights.Branches ≡ Some m = sym (out_path n true (limits.begun n weights.Branches) (no_skip c l d s n t h) (ground_depth c l d s n t p.0)) ∙ g in
     elim (either (was_end s.last) (Some (renewed s)) (Some (renewed (record s { opened = s.opened + 1 }))) y p.1) [
-        inl q ↦ give c l d (renewed s) y (anew n) m (limits.begun n weights.Branches) q.1 (begun_end c l d s n (limits.compounded (anew n)) q.0 k) e (held_anew c l d s n t)
-        | inr q ↦ opens_one c l d s y n m t q.1 (sym (begun_other c l d s n (limits.compounded (anew n)) q.0 k) ∙ e)
+      | inl q ↦ give c l d (renewed s) y (anew n) m (limits.begun n weights.Branches) q.1 (begun_end c l d s n (limits.compounded (anew n)) q.0 k) e (held_anew c l d s n t)
+      | inr q ↦ opens_one c l d s y n m t q.1 (sym (begun_other c l d s n (limits.compounded (anew n)) q.0 k) ∙ e)
     ]
 
 plain_while : Plain weights.While
@@ -376,16 +372,16 @@ plain_loops c l d s y n m t h k f g =
     let p = went (at_ground s) (if was_end s.last then Some (renewed s) else rest) y f in
     let e : limits.begun n weights.Loops ≡ Some m = sym (out_path n true (limits.begun n weights.Loops) (no_skip c l d s n t h) (ground_depth c l d s n t p.0)) ∙ g in
     elim (either (was_end s.last) (Some (renewed s)) rest y p.1) [
-        inl q ↦ give c l d (renewed s) y (anew n) m (limits.begun n weights.Loops) q.1 (begun_end c l d s n (limits.loop_begun (anew n)) q.0 k) e (held_anew c l d s n t)
-        | inr q ↦
-            let i : limits.loop_begun (anew n) ≡ Some m = sym (begun_other c l d s n (limits.loop_begun (anew n)) q.0 k) ∙ e in
-            elim (either (is_headed s.head) (Some (renewed (record s { head = heads.Nothing }))) (Some (renewed (record s { opened = s.opened + 1; loops = s.loops + 1; head = heads.Nothing }))) y q.1) [
-                inl r ↦ give c l d (renewed (record s { head = heads.Nothing })) y (with_open (anew n) n.compounds n.loops heads.Nothing) m (limits.loop_begun (anew n)) r.1
-                    (if_true (is_headed n.head) (Some (with_open (anew n) n.compounds n.loops heads.Nothing)) (limits.looped (anew n) heads.Nothing) (ap is_headed t.head ∙ r.0)) i
-                    (record { depth = t.depth; compounds = t.compounds; loops = t.loops; head = refl; in_statements = t.in_statements; skips = t.skips; parted = omega arith; operators = omega arith; ground = t.ground })
-                | inr r ↦ loops_two heads.Nothing c l d s y n m t r.1
-                    (sym (if_false (is_headed n.head) (Some (with_open (anew n) n.compounds n.loops heads.Nothing)) (limits.looped (anew n) heads.Nothing) (ap is_headed t.head ∙ r.0)) ∙ i)
-            ]
+      | inl q ↦ give c l d (renewed s) y (anew n) m (limits.begun n weights.Loops) q.1 (begun_end c l d s n (limits.loop_begun (anew n)) q.0 k) e (held_anew c l d s n t)
+      | inr q ↦
+          let i : limits.loop_begun (anew n) ≡ Some m = sym (begun_other c l d s n (limits.loop_begun (anew n)) q.0 k) ∙ e in
+          elim (either (is_headed s.head) (Some (renewed (record s { head = heads.Nothing }))) (Some (renewed (record s { opened = s.opened + 1; loops = s.loops + 1; head = heads.Nothing }))) y q.1) [
+            | inl r ↦ give c l d (renewed (record s { head = heads.Nothing })) y (with_open (anew n) n.compounds n.loops heads.Nothing) m (limits.loop_begun (anew n)) r.1
+                (if_true (is_headed n.head) (Some (with_open (anew n) n.compounds n.loops heads.Nothing)) (limits.looped (anew n) heads.Nothing) (ap is_headed t.head ∙ r.0)) i
+                (record { depth = t.depth; compounds = t.compounds; loops = t.loops; head = refl; in_statements = t.in_statements; skips = t.skips; parted = omega arith; operators = omega arith; ground = t.ground })
+            | inr r ↦ loops_two heads.Nothing c l d s y n m t r.1
+                (sym (if_false (is_headed n.head) (Some (with_open (anew n) n.compounds n.loops heads.Nothing)) (limits.looped (anew n) heads.Nothing) (ap is_headed t.head ∙ r.0)) ∙ i)
+          ]
     ]
 
 declared_some : (o : Option Nesting) (m : Nesting) → limits.declared o ≡ Some m → (x : Nesting) × (o ≡ Some x) × (Some (with_statements x false) ≡ Some m)
@@ -402,7 +398,7 @@ plain_declares c l d s y n m t h k f g =
     let e : limits.begun n weights.Declares ≡ Some m = sym (out_path n true (limits.begun n weights.Declares) (no_skip c l d s n t h) (ground_depth c l d s n t q.0)) ∙ g in
     let i = declared_some (limits.compounded (anew n)) m (sym (begun_other c l d s n (limits.declared (limits.compounded (anew n))) (not_true (was_end s.last) q.1) k) ∙ e) in
     give c l d (renewed (record s { opened = s.opened + 1; inside = false })) y (with_statements i.0 false) m (Some (with_statements i.0 false)) p.1 refl i.2
-        (leaves_statements c l d (renewed (record s { opened = s.opened + 1 })) i.0 (opens_one c l d s (renewed (record s { opened = s.opened + 1 })) n i.0 t refl i.1))
+    (leaves_statements c l d (renewed (record s { opened = s.opened + 1 })) i.0 (opens_one c l d s (renewed (record s { opened = s.opened + 1 })) n i.0 t refl i.1))
 
 plain_enters : Plain weights.Enters
 plain_enters c l d s y n m t h k f g =
@@ -411,10 +407,10 @@ plain_enters c l d s y n m t h k f g =
     let e : limits.begun n weights.Enters ≡ Some m = sym (out_path n true (limits.begun n weights.Enters) (no_skip c l d s n t h) (ground_depth c l d s n t q.0)) ∙ g in
     let i : limits.entered (anew n) ≡ Some m = sym (begun_other c l d s n (limits.entered (anew n)) (not_true (was_end s.last) q.1) k) ∙ e in
     elim (either s.inside (Some (renewed (record s { opened = s.opened + 1 }))) (Some (renewed (record s { inside = true }))) y p.1) [
-        inl r ↦ opens_one c l d s y n m t r.1 (sym (if_true n.in_statements (limits.compounded (anew n)) (Some (with_statements (anew n) true)) (t.in_statements ∙ r.0)) ∙ i)
-        | inr r ↦ give c l d (renewed (record s { inside = true })) y (with_statements (anew n) true) m (limits.entered (anew n)) r.1
-            (if_false n.in_statements (limits.compounded (anew n)) (Some (with_statements (anew n) true)) (t.in_statements ∙ r.0)) i
-            (record { depth = t.depth; compounds = t.compounds; loops = t.loops; head = t.head; in_statements = refl; skips = t.skips; parted = omega arith; operators = omega arith; ground = t.ground })
+      | inl r ↦ opens_one c l d s y n m t r.1 (sym (if_true n.in_statements (limits.compounded (anew n)) (Some (with_statements (anew n) true)) (t.in_statements ∙ r.0)) ∙ i)
+      | inr r ↦ give c l d (renewed (record s { inside = true })) y (with_statements (anew n) true) m (limits.entered (anew n)) r.1
+          (if_false n.in_statements (limits.compounded (anew n)) (Some (with_statements (anew n) true)) (t.in_statements ∙ r.0)) i
+          (record { depth = t.depth; compounds = t.compounds; loops = t.loops; head = t.head; in_statements = refl; skips = t.skips; parted = omega arith; operators = omega arith; ground = t.ground })
     ]
 
 pub plain : (v : Weight) → Plain v
@@ -504,17 +500,17 @@ skipped_at weights.Closes c l d s y n m t h f g =
 skipped_at weights.Ends c l d s y n m t h f g =
     let e : Some (limits.skipped n weights.Ends) ≡ Some m = sym (if_true n.skips (Some (limits.skipped n weights.Ends)) (Some (anew n)) h) ∙ g in
     elim (either (more_than_none s.deep) (Some s) (if s.ground then Some (renewed (record s { skips = false })) else None) y f) [
-        inl p ↦ give c l d s y n m (Some (limits.skipped n weights.Ends)) p.1
-            (ap (λ (i : Nesting). Some i) (if_false (nat_eq n.depth 0) (anew (with_skips n false)) n (deep_none c l d s n t p.0))) e t
-        | inr p ↦
-            let q = went s.ground (Some (renewed (record s { skips = false }))) y p.1 in
-            let zero_deep = none_more s.deep p.0 in
-            let d_zero = t.ground q.0 in
-            let depth = t.depth in
-            let all : n.depth ≡ 0 = omega arith in
-            give c l d (renewed (record s { skips = false })) y (anew (with_skips n false)) m (Some (limits.skipped n weights.Ends)) q.1
-                (ap (λ (i : Nesting). Some i) (if_true (nat_eq n.depth 0) (anew (with_skips n false)) n (ap (λ (i : ℕ). nat_eq i 0) all))) e
-                (record { depth = t.depth; compounds = t.compounds; loops = t.loops; head = t.head; in_statements = t.in_statements; skips = refl; parted = omega arith; operators = omega arith; ground = t.ground })
+      | inl p ↦ give c l d s y n m (Some (limits.skipped n weights.Ends)) p.1
+          (ap (λ (i : Nesting). Some i) (if_false (nat_eq n.depth 0) (anew (with_skips n false)) n (deep_none c l d s n t p.0))) e t
+      | inr p ↦
+          let q = went s.ground (Some (renewed (record s { skips = false }))) y p.1 in
+          let zero_deep = none_more s.deep p.0 in
+          let d_zero = t.ground q.0 in
+          let depth = t.depth in
+          let all : n.depth ≡ 0 = omega arith in
+          give c l d (renewed (record s { skips = false })) y (anew (with_skips n false)) m (Some (limits.skipped n weights.Ends)) q.1
+          (ap (λ (i : Nesting). Some i) (if_true (nat_eq n.depth 0) (anew (with_skips n false)) n (ap (λ (i : ℕ). nat_eq i 0) all))) e
+          (record { depth = t.depth; compounds = t.compounds; loops = t.loops; head = t.head; in_statements = t.in_statements; skips = refl; parted = omega arith; operators = omega arith; ground = t.ground })
     ]
   where
     deep_none : (c l d : ℕ) (s : Place) (n : Nesting) → Held c l d s n → more_than_none s.deep ≡ true → nat_eq n.depth 0 ≡ false
@@ -551,7 +547,7 @@ with_some k (Some n) m e = (n, refl, some_same (record n { last = k }) m e)
 lasted : (k : Last) (c l d : ℕ) (s x : Place) (n m : Nesting) → Held c l d s n → record s { last = Some k } ≡ x → record n { last = k } ≡ m → Keeps c l d x m
 lasted k c l d s x n m t e f =
     subst (λ (i : Place). Keeps c l d i m) e (subst (λ (i : Nesting). Keeps c l d (record s { last = Some k }) i) f
-        (record { held = record { depth = t.depth; compounds = t.compounds; loops = t.loops; head = t.head; in_statements = t.in_statements; skips = t.skips; parted = t.parted; operators = t.operators; ground = t.ground }; last = λ h. refl }))
+    (record { held = record { depth = t.depth; compounds = t.compounds; loops = t.loops; head = t.head; in_statements = t.in_statements; skips = t.skips; parted = t.parted; operators = t.operators; ground = t.ground }; last = λ h. refl }))
 
 plain_ended : (v : Weight) (c l d : ℕ) (s y : Place) (n m : Nesting) → Keeps c l d s n → s.skips ≡ false → then_plain v (ended_by v s) ≡ Some y → weighed (ended n v) v ≡ Some m → Held c l d y m
 plain_ended v c l d s y n m t h f g =
@@ -561,14 +557,15 @@ plain_ended v c l d s y n m t h f g =
     plain_some : (o : Option Place) → then_plain v o ≡ Some y → (x : Place) × (o ≡ Some x) × (plain_by v x ≡ Some y)
     plain_some None e = cc
     plain_some (Some x) e = (x, refl, e)
+
     by : (b : Bool) → b ≡ was_end s.last → then_plain v (if b then closed_by v s else Some s) ≡ Some y → weighed (if is_end n.last then limits.closed n v else n) v ≡ Some m → Held c l d y m
     by true e f g =
         let p = plain_some (closed_by v s) f in
         let x = ended_at v c l d s p.0 n t.held p.1 in
         let closes : (if is_end n.last then limits.closed n v else n) ≡ limits.closed n v = if_true (is_end n.last) (limits.closed n v) n (was_end_last s.last n.last (sym e) (t.last h)) in
         plain v c l d p.0 y (limits.closed n v) m x.0 (x.3 ∙ h)
-            (subst (λ (i : Option Last). Known i (limits.closed n v).last) (sym x.1) (subst (λ (i : Last). Known s.last i) (sym x.2) (t.last h)))
-            p.2 (sym (ap (λ (i : Nesting). weighed i v) closes) ∙ g)
+        (subst (λ (i : Option Last). Known i (limits.closed n v).last) (sym x.1) (subst (λ (i : Last). Known s.last i) (sym x.2) (t.last h)))
+        p.2 (sym (ap (λ (i : Nesting). weighed i v) closes) ∙ g)
     by false e f g =
         let p = plain_some (Some s) f in
         let same : s ≡ p.0 = some_same s p.0 p.1 in

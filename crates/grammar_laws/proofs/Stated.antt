@@ -1,5 +1,5 @@
 -- Behind statements the open compound statements and loops are what they were.
-use Rattle.std.proofs.Common.{◌≡◌, ◌⊎◌, inl, inr, ℕ, zero, suc, ◌+◌, ◌-◌, ◌<◌, ◌≤◌, Bool, true, false, not, ◌&&◌, ◌||◌, if◌then◌else◌, nat_eq, nat_le, List, [], ◌∷◌, ◌++◌, Option, Some, None, refl, sym, ◌∙◌, ap, subst, arith, leb-true}
+use Rattle.std.proofs.Common.{◌≡◌, ℕ, zero, suc, ◌+◌, ◌-◌, ◌<◌, ◌≤◌, Bool, true, false, not, ◌&&◌, ◌||◌, if◌then◌else◌, nat_eq, nat_le, List, [], ◌∷◌, Option, Some, None, refl, sym, ◌∙◌, ap, subst, arith, leb-true}
 use Rattle.std.proofs.lemmas.Bool.{eqb-true}
 use Rattle.ada_tree.specs.declared.token.TokenKind.{TokenKind}
 use Rattle.ada_tree.specs.declared.token.TokenKind.TheVariants as kinds
@@ -31,20 +31,19 @@ use Rattle.ada_grammar.specs.declared.tokens.LoopHead.TheVariants as heads
 use Rattle.ada_grammar.specs.declared.tokens.Nesting.{Nesting}
 use Rattle.ada_grammar.specs.declared.weights.Weight.{Weight}
 use Rattle.ada_grammar.specs.declared.weights.Weight.TheVariants as weights
-use Rattle.ada_grammar.specs.Numbers.{same_word, same_mark}
 use Rattle.ada_grammar.specs.Sorts.{Sort, WordSort, NumberSort, ReservedSort, MarkSort, is_in, is_word, sort_of, opens_statement, opens_compound, opens_local}
 use Rattle.ada_grammar.specs.Lexemes.{Lexeme, sort}
-use Rattle.ada_grammar.specs.Limits.{is_end, is_parameter, weight_of, last_of, with_last, weighed, ended, step, step_on, walk, walk_on, most_operators}
+use Rattle.ada_grammar.specs.Limits.{is_end, is_parameter, weight_of, last_of, step, walk}
 use Rattle.ada_grammar.specs.Phrases as phrases
 use Rattle.ada_grammar.specs.Phrases.{Phrase, Tree, Children}
-use Rattle.ada_grammar.specs.Parts.{Part, Expr, Continued, RestOfExpr, BehindAnd, BehindOr, Opened, Begun, Chain, Rel, RestOfRel, Membership, Simple, Signed, Sums, Term, Products, Factor, Powered, Primary, Parens, Condition, Arms, InParens, NamedFrom, BehindExpr, Items, LastItem, Association, Choices, Associations, Choice, Name, Suffixes, MayOpen, BehindTick, BehindAttribute, ValuesFrom, Values, ArgumentsFrom, Arguments, Argument, Drange, SubtypeRange, UnitName, Points, Indication, IndicationFrom, SkippedTokens, Pragma, BehindWith, MoreAspects, Aspect, AspectOf, Defined, Atomic, SkippedAspect, DefinitionOf, NullOrItems, ItemsFrom, MoreItems, GlobalDefinition, InGlobal, ModesFrom, MoreModes, DependsDefinition, Elements, MoreElements, Element, Dependency, Refinement, Initialization, RefinedDefinition, InitializesDefinition, PartOf, StatesDefinition, InStates, MoreStates, State, StateWithOptions, Closing, Names, BehindNames, Object, ObjectFrom, Component, Formal, FormalMark, LocalDeclarations, LocalDeclaration, UnitNames, MoreUnitNames, TypeDefinition, Literals, MoreLiterals, RangeType, ArrayType, Components, MoreComponents, Statements, MoreStatements, Statement, NamedStatement, BehindName, Labelled, If, MoreArms, EndIf, Case, MoreAlternatives, Alternative, MoreChoices, While, For, ForRange, LoopBody, Declare, BlockBody, EndOfStatement, Exit, Return, Formals, Balanced, Body, Never, Gives, Take, Call, Rest, Or, When, is_none, one_less}
+use Rattle.ada_grammar.specs.Parts.{Part, Expr, Continued, RestOfExpr, BehindAnd, BehindOr, Opened, Begun, Chain, Rel, RestOfRel, Membership, Simple, Signed, Sums, Term, Products, Factor, Powered, Primary, Parens, Condition, Arms, InParens, NamedFrom, BehindExpr, Items, LastItem, Association, Choices, Associations, Choice, Name, Suffixes, MayOpen, BehindTick, BehindAttribute, ValuesFrom, Values, ArgumentsFrom, Arguments, Argument, Drange, SubtypeRange, UnitName, Points, Indication, IndicationFrom, SkippedTokens, Pragma, BehindWith, MoreAspects, Aspect, AspectOf, Defined, Atomic, SkippedAspect, DefinitionOf, NullOrItems, ItemsFrom, MoreItems, GlobalDefinition, InGlobal, ModesFrom, MoreModes, DependsDefinition, Elements, MoreElements, Element, Dependency, Refinement, Initialization, RefinedDefinition, InitializesDefinition, PartOf, StatesDefinition, InStates, MoreStates, State, StateWithOptions, Closing, Names, BehindNames, Object, ObjectFrom, Component, Formal, FormalMark, LocalDeclarations, LocalDeclaration, UnitNames, MoreUnitNames, TypeDefinition, Literals, MoreLiterals, RangeType, ArrayType, Components, MoreComponents, Statements, MoreStatements, Statement, NamedStatement, BehindName, Labelled, If, MoreArms, EndIf, Case, MoreAlternatives, Alternative, MoreChoices, While, For, ForRange, LoopBody, Declare, BlockBody, EndOfStatement, Exit, Return, Balanced, Body, Never, Gives, Take, Call, Rest, Or, When, is_none, one_less}
 use Rattle.ada_grammar.specs.Grammar.{rule}
 use Rattle.ada_grammar.specs.Spelling.{Fits, gives, take, call, rest, left, right, yes, no, Spells}
 use Rattle.ada_grammar.proofs.EverySort.{all_sorts, by_sort, one_word}
 use Rattle.grammar_laws.specs.Closing.{InStatements, IsClosed}
 use Rattle.grammar_laws.proofs.Tracks.{Known, was_other, Tracks, one_mark}
-use Rattle.grammar_laws.proofs.Counted.{is_part, closes, floor, roof, needed, behind_in, serves, serves_goes, begins as begins_expression, finishes, owed as owed_expression, sound, between, walk_parts}
-use Rattle.grammar_laws.proofs.Places.{Place, Held, Keeps, more_than_none, was_end, weighed_by, skipped_by, then_plain, ended_by, last_put, weighed_at}
+use Rattle.grammar_laws.proofs.Counted.{is_part, closes, floor, roof, needed, behind_in, serves, serves_goes, begins as begins_expression, owed as owed_expression, sound, between, walk_parts}
+use Rattle.grammar_laws.proofs.Places.{Place, Keeps, more_than_none, was_end, weighed_by, skipped_by, then_plain, ended_by, last_put, weighed_at}
 use Rattle.grammar_laws.proofs.Formed.{Holds, each, nothing}
 use Rattle.ada_grammar.proofs.Begins.{only_if, holds}
 use Rattle.grammar_laws.proofs.Tests.{if_true, if_false, none_some, some_same, went, and_parts, not_true, true_false, false_true}
@@ -1044,7 +1043,7 @@ skips_class q t c l d s x n m all i f k g =
     let p = went s.skips (Some (record s { last = None })) x f in
     let quiet = holds (is_in q (sort t)) (calm (weight_of (sort t))) (by_sort (λ τ. only_if (is_in q τ) (calm (weight_of τ))) all (sort t)) i in
     subst (λ (y : Place). Keeps c l d y m) (some_same (record s { last = None }) x p.1)
-        (forgets (sort t) c l d s n m p.0 (calm_skipped (weight_of (sort t)) s quiet) k g)
+    (forgets (sort t) c l d s n m p.0 (calm_skipped (weight_of (sort t)) s quiet) k g)
 
 -- the first token of a statement or a declaration
 begun_word : (w : Reserved) → opens_statement w ≡ true → sort_on (ReservedSort w) stating ≡ Some (begun (statement_form (kinds.Reserved w)))
@@ -1149,7 +1148,7 @@ shut_deeper : (i : ℕ) (t : Lexeme) (y : Phrase) (v : List Lexeme) → is_in (c
 shut_deeper i t y v is f c l d s n m h k e g =
     let b = between (step n (sort t)) v m g in
     let opened : sort_on (MarkSort marks.Open) s ≡ Some (record s { deep = s.deep + 1; last = Some lasts.Other }) =
-        ap (λ (o : Option Place). last_put lasts.Other o) (if_true s.skips (skipped_by weights.Opens s) (then_plain weights.Opens (ended_by weights.Opens s)) h) in
+    ap (λ (o : Option Place). last_put lasts.Other o) (if_true s.skips (skipped_by weights.Opens s) (then_plain weights.Opens (ended_by weights.Opens s)) h) in
     let next = on_sort (sort t) c l d s (record s { deep = s.deep + 1; last = Some lasts.Other }) n b.0 k (this_mark marks.Open (sort t) s (record s { deep = s.deep + 1; last = Some lasts.Other }) is opened) b.1 in
     let deeper : i + 1 < s.deep + 1 = omega arith in
     let back : (s.deep + 1) - ((i + 1) + 1) ≡ s.deep - (i + 1) = omega arith in
@@ -1158,8 +1157,8 @@ shut_deeper i t y v is f c l d s n m h k e g =
 closed_place : (t : Lexeme) (c l d : ℕ) (s : Place) (n k : Nesting) → is_in (classes.Mark marks.Close) (sort t) ≡ true → s.skips ≡ true → more_than_none s.deep ≡ true → Keeps c l d s n → step n (sort t) ≡ Some k → Keeps c l d (record s { deep = s.deep - 1; last = Some lasts.Other }) k
 closed_place t c l d s n k is h e t_keeps g =
     let closed : sort_on (MarkSort marks.Close) s ≡ Some (record s { deep = s.deep - 1; last = Some lasts.Other }) =
-        ap (λ (o : Option Place). last_put lasts.Other o) (if_true s.skips (skipped_by weights.Closes s) (then_plain weights.Closes (ended_by weights.Closes s)) h
-            ∙ if_true (more_than_none s.deep) (Some (record s { deep = s.deep - 1 })) None e) in
+    ap (λ (o : Option Place). last_put lasts.Other o) (if_true s.skips (skipped_by weights.Closes s) (then_plain weights.Closes (ended_by weights.Closes s)) h
+    ∙ if_true (more_than_none s.deep) (Some (record s { deep = s.deep - 1 })) None e) in
     on_sort (sort t) c l d s (record s { deep = s.deep - 1; last = Some lasts.Other }) n k t_keeps (this_mark marks.Close (sort t) s (record s { deep = s.deep - 1; last = Some lasts.Other }) is closed) g
 
 -- a place where tokens are skipped, of which the last token is forgotten
@@ -1184,8 +1183,8 @@ shut_higher (suc i) t y v is z f c l d s n m h k e g =
 
 shut : (p : Part) → Holds Shut (rule p) (Shut p)
 shut (Balanced i) = (
-    λ t is y v g f. shut_more i t y v is f,
-    (λ t is y v g f. shut_deeper i t y v is f, λ t is. (λ e. shut_last i t phrases.blank is e, λ e y v g f. shut_higher i t y v is e f)),
+  λ t is y v g f. shut_more i t y v is f,
+  (λ t is y v g f. shut_deeper i t y v is f, λ t is. (λ e. shut_last i t phrases.blank is e, λ e y v g f. shut_higher i t y v is e f)),
 )
 shut p = nothing Shut (rule p)
 
@@ -1225,7 +1224,7 @@ through q s c l d n m {a} {u} f k g e inner = by (s.skips && is_balanced q) (box
         let p = and_parts (stands q (context_of s)) (fits (begins q (context_of s)) s) f in
         let b = begins q (context_of s) in
         leaves b (ends q (context_of s)) s c l d n m p.1 k
-            (inner ((c + s.opened) - b.opened) ((l + s.loops) - b.loops) ((d + s.deep) - b.deep) p.0 (enters b s c l d n p.1 k))
+        (inner ((c + s.opened) - b.opened) ((l + s.loops) - b.loops) ((d + s.deep) - b.deep) p.0 (enters b s c l d n p.1 k))
 
 going : (o : Option Place) (f : Place → Type 0) → Going o f → (x : Place) × (o ≡ Some x) × f x
 going None f h = absurd h
@@ -1240,10 +1239,10 @@ sounds p x (take {c = q} {rest = f} {t} {w} is g) c l d s n m o k e =
 sounds p x (call {p = q} {rest = f} {a} {u} {v} g i) c l d s n m o k e =
     let b = between (walk n u) v m (sym (walk_parts (Some n) u v) ∙ e) in
     sounds p x i c l d (behind q s) b.0 m (o.1 a)
-        (through q s c l d n b.0 o.0 k g b.1 (λ c' l' d' st kp. sounds q (context_of s) g c' l' d' (begins q (context_of s)) n b.0 (owed q (context_of s) st) kp b.1)) b.2
+    (through q s c l d n b.0 o.0 k g b.1 (λ c' l' d' st kp. sounds q (context_of s) g c' l' d' (begins q (context_of s)) n b.0 (owed q (context_of s) st) kp b.1)) b.2
 sounds p x (rest {p = q} g) c l d s n m o k e =
     exactly (ends p x) (behind q s) c l d m o.1
-        (through q s c l d n m o.0 k g e (λ c' l' d' st kp. sounds q (context_of s) g c' l' d' (begins q (context_of s)) n m (owed q (context_of s) st) kp e))
+    (through q s c l d n m o.0 k g e (λ c' l' d' st kp. sounds q (context_of s) g c' l' d' (begins q (context_of s)) n m (owed q (context_of s) st) kp e))
 sounds p x (left g) c l d s n m o k e = sounds p x g c l d s n m o.0 k e
 sounds p x (right g) c l d s n m o k e = sounds p x g c l d s n m o.1 k e
 sounds p x (yes g) c l d s n m o k e = sounds p x g c l d s n m o.0 k e

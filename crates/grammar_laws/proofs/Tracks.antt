@@ -401,7 +401,7 @@ weighs v k z d s x n m head t h e = none_some x h
 sort_moves : (τ : Sort) (z : Nesting) (d : ℕ) (s x : State) (n m : Nesting) → is_parameter z.head ≡ false → Tracks z d s n → moves_on τ s ≡ Some x → step n τ ≡ Some m → Tracks z d x m
 unfolding step
 sort_moves τ z d s x n m head t h e =
-    let g : (goes s.last ≡ true) × (last_is (last_of τ) (moved (weight_of τ) s) ≡ Some x) = went (goes s.last) (last_is (last_of τ) (moved (weight_of τ) s)) h in
+    let g : (goes s.last ≡ true) × (last_is (last_of τ) (moved (weight_of τ) s) ≡ Some x) = went (goes s.last) (last_is (last_of τ) (moved (weight_of τ) s)) x h in
     let same : ended n (weight_of τ) ≡ n = ended_same n (weight_of τ) t.skips (last_known s.last n.last g.0 t.last) in
     weighs (weight_of τ) (last_of τ) z d s x n m head t g.1 (sym (ap (λ (i : Nesting). with_last (last_of τ) (weighed i (weight_of τ))) same) ∙ e)
 

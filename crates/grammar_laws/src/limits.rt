@@ -27,11 +27,9 @@ pub fn outermost_operators_are_counted()
 
 /// Behind statements that pass no limit.
 pub fn statements_close_what_they_open()
-    ensures {
-        (y : Phrase) (w : List Lexeme) (d : Children) (n m : Nesting)
+    ensures { (y : Phrase) (w : List Lexeme) (d : Children) (n m : Nesting)
         → Spells (parts.Statements d) y w
         → InStatements n
         → walk n w ≡ Some m
-        → IsClosed n m
-    }
+        → IsClosed n m }
 {}
