@@ -19,6 +19,9 @@ use Rattle.ada_grammar.specs.Spelling.{Fits, gives, take, call, rest, left, righ
 use Rattle.spark_base.specs.declared.numbers.Span.{Span}
 use Rattle.grammar_laws.specs.Counting.{operators, MayBegin, IsCounted}
 use Rattle.grammar_laws.proofs.Tracks.{State, Known, Tracks, was_and, was_or, was_tick, was_other, goes, moves, stepped}
+use Rattle.ada_grammar.proofs.Begins.{only_if, holds}
+use Rattle.ada_grammar.proofs.EverySort.{and_left, and_right}
+use Rattle.grammar_laws.proofs.Tests.{if_false, some_same, false_true}
 
 -- the parts of expressions
 abbrev pub is_part : Part → Bool
@@ -163,10 +166,6 @@ serves (Some lasts.Tick) l = was_tick l
 serves (Some lasts.Other) l = was_other l
 serves (Some k) l = false
 
-abbrev pub only_if : Bool → Bool → Bool
-only_if true b = b
-only_if false b = true
-
 abbrev pub fine : Part → State → Bool
 fine q s = is_part q && (serves (needed q) s.last && (nat_le (floor q) s.deep && only_if (behind_in q) s.member))
 
@@ -210,9 +209,6 @@ chain logical.Or a = (λ o. (refl, λ b n h. (refl, refl, omega arith)), (refl, 
 chain logical.Xor a = (λ o. (refl, λ b n h. (refl, refl, omega arith)), (refl, refl, omega arith))
 chain logical.AndThen a = (λ o t. (refl, λ b n h. (refl, refl, omega arith)), (refl, refl, omega arith))
 chain logical.OrElse a = (λ o t. (refl, λ b n h. (refl, refl, omega arith)), (refl, refl, omega arith))
-
-false_true : {A : Type 0} → false ≡ true → A
-false_true e = cc
 
 pub owed : (p : Part) → is_part p ≡ true → Owes p (rule p) (begins p)
 owed Expr e = (refl, λ a n h. (refl, refl, omega arith))
@@ -300,14 +296,14 @@ walk_none : (w : List Lexeme) (m : Nesting) → walk_on None w ≡ Some m → �
 walk_none [] m e = cc
 walk_none (t ∷ w) m e = walk_none w m e
 
-abbrev Between : Option Nesting → List Lexeme → Nesting → Type 0
+abbrev pub Between : Option Nesting → List Lexeme → Nesting → Type 0
 Between o w m = (k : Nesting) × (o ≡ Some k) × (walk k w ≡ Some m)
 
-between : (o : Option Nesting) (w : List Lexeme) (m : Nesting) → walk_on o w ≡ Some m → Between o w m
+pub between : (o : Option Nesting) (w : List Lexeme) (m : Nesting) → walk_on o w ≡ Some m → Between o w m
 between None w m e = absurd (walk_none w m e)
 between (Some k) w m e = (k, refl, e)
 
-walk_parts : (o : Option Nesting) (u v : List Lexeme) → walk_on o (u ++ v) ≡ walk_on (walk_on o u) v
+pub walk_parts : (o : Option Nesting) (u v : List Lexeme) → walk_on o (u ++ v) ≡ walk_on (walk_on o u) v
 walk_parts o [] v = refl
 walk_parts o (t ∷ u) v = walk_parts (step_on o (sort t)) u v
 
@@ -315,19 +311,11 @@ going : (o : Option State) (f : State → Type 0) → Going o f → (x : State) 
 going None f h = absurd h
 going (Some x) f h = (x, refl, h)
 
-and_left : (a b : Bool) → (a && b) ≡ true → a ≡ true
-and_left true b e = refl
-and_left false b e = cc
-
-and_right : (a b : Bool) → (a && b) ≡ true → b ≡ true
-and_right true b e = e
-and_right false b e = cc
-
 floor_one : (p : Part) → floor p ≤ 1
 floor_one Expr = omega arith
 floor_one p = omega arith
 
-serves_goes : (k l : Option Last) (x : Last) → serves k l ≡ true → Known l x → Known k x
+pub serves_goes : (k l : Option Last) (x : Last) → serves k l ≡ true → Known l x → Known k x
 serves_goes None None x e h = h
 serves_goes None (Some lasts.End) x e h = cc
 serves_goes None (Some l) x e h = ap is_end h ∙ other l e
@@ -340,10 +328,6 @@ serves_goes (Some lasts.Or) (Some lasts.Or) x e h = h
 serves_goes (Some lasts.Tick) (Some lasts.Tick) x e h = h
 serves_goes (Some lasts.Other) (Some lasts.Other) x e h = h
 serves_goes k l x e h = cc
-
-if_holds : (a b : Bool) → only_if a b ≡ true → a ≡ true → b ≡ true
-if_holds true b e h = e
-if_holds false b e h = cc
 
 -- a part begins where it may stand
 pub enters : (q : Part) (z : Nesting) (d : ℕ) (s : State) (n : Nesting) → fine q s ≡ true → Tracks z d s n → Tracks n ((d + s.deep) - floor q) (begins q) n
@@ -366,12 +350,8 @@ enters q z d s n f t =
       last = serves_goes (needed q) s.last n.last (and_left (serves (needed q) s.last) (nat_le (floor q) s.deep && only_if (behind_in q) s.member) a) t.last;
       parted = omega arith;
       fewer = omega arith;
-      member = λ i. t.member (if_holds (behind_in q) s.member (and_right (nat_le (floor q) s.deep) (only_if (behind_in q) s.member) b) i);
+      member = λ i. t.member (holds (behind_in q) s.member (and_right (nat_le (floor q) s.deep) (only_if (behind_in q) s.member) b) i);
     }
-
-if_false : {A : Type 0} (b : Bool) (x y : A) → b ≡ false → (if b then x else y) ≡ y
-if_false true x y e = cc
-if_false false x y e = refl
 
 unless : (a b : Bool) → (if a then false else b) ≡ true → (a ≡ false) × (b ≡ true)
 unless true b e = cc
@@ -429,13 +409,10 @@ done p z d s n c deep last count t =
       member = λ e. false_true e;
     }
 
-abbrev Found : Part → Nesting → ℕ → Phrase → Nesting → Type 0
+abbrev pub Found : Part → Nesting → ℕ → Phrase → Nesting → Type 0
 Found p z d y m = (c : ℕ) × (before p + c ≡ operators y.tree) × Tracks z d (finishes p c) m
 
-some_same : (x y : Nesting) → Some x ≡ Some y → x ≡ y
-some_same x y e = cc
-
-sound : (p : Part) {b : Body} {y : Phrase} {w : List Lexeme} → Fits b y w → (z : Nesting) (d : ℕ) (s : State) (n m : Nesting) → is_parameter z.head ≡ false → Owes p b s → Tracks z d s n → walk n w ≡ Some m → Found p z d y m
+pub sound : (p : Part) {b : Body} {y : Phrase} {w : List Lexeme} → Fits b y w → (z : Nesting) (d : ℕ) (s : State) (n m : Nesting) → is_parameter z.head ≡ false → Owes p b s → Tracks z d s n → walk n w ≡ Some m → Found p z d y m
 sound p (gives {y}) z d s n m head o t e =
     (s.count, o.2, subst (λ (x : Nesting). Tracks z d (finishes p s.count) x) (some_same n m e) (done p z d s n s.count o.0 o.1 refl t))
 sound p (take {c} {rest = k} {t = i} {w} is g) z d s n m head o t e =

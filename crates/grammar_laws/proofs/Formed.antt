@@ -35,7 +35,7 @@ each f all (right g) q h = each f all g q h.1
 each f all (yes g) q h = each f all g q (h.0 refl)
 each f all (no g) q h = each f all g q (h.1 refl)
 
-nothing : (f : Part → Phrase → List Lexeme → Type 0) (b : Body) → Holds f b (λ y w. Unit {0})
+pub nothing : (f : Part → Phrase → List Lexeme → Type 0) (b : Body) → Holds f b (λ y w. Unit {0})
 nothing f Never = tt
 nothing f (Gives y) = tt
 nothing f (Take c k) = λ t is. nothing f (k t)

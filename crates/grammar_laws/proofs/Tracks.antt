@@ -18,6 +18,7 @@ use Rattle.ada_grammar.specs.Numbers.{mark_number, same_mark}
 use Rattle.ada_grammar.specs.Limits.{most_operators, most_open, with_last, with_open, closed, weighed, ended, counted, contained, member, outside, behind_dots, behind_range, behind_then, behind_else, divided, in_for_head, with_count, with_depth, is_end, is_not, is_and, is_or, is_is, is_tick, is_parameter, anew, weight_of, last_of, step}
 use Rattle.ada_grammar.specs.Lexemes.{Lexeme, sort}
 use Rattle.ada_grammar.proofs.EverySort.{one_word}
+use Rattle.grammar_laws.proofs.Tests.{if_true, if_false, if_same, none_some, some_same, went}
 
 -- how deep a place lies in the parentheses of an expression, how many operators stand before it, the last token where it
 -- is known, and whether it is behind the word in, with no parentheses between
@@ -114,28 +115,10 @@ moves (classes.Reserved w) s = moves_on (ReservedSort w) s
 moves (classes.Mark m) s = moves_on (MarkSort m) s
 moves c s = None
 
-if_true : {A : Type 0} (b : Bool) (x y : A) → b ≡ true → (if b then x else y) ≡ x
-if_true true x y e = refl
-if_true false x y e = cc
-
-if_false : {A : Type 0} (b : Bool) (x y : A) → b ≡ false → (if b then x else y) ≡ y
-if_false true x y e = cc
-if_false false x y e = refl
-
-if_same : {A : Type 0} (b : Bool) (x : A) → (if b then x else x) ≡ x
-if_same true x = refl
-if_same false x = refl
-
 -- a test that passed
 passed : {A : Type 0} (b : Bool) (x y : A) → (if b then Some x else None) ≡ Some y → (b ≡ true) × (x ≡ y)
 passed true x y e = (refl, cc)
 passed false x y e = cc
-
-none_some : {A B : Type 0} (x : A) → None ≡ Some x → B
-none_some x e = cc
-
-some_same : {A : Type 0} (x y : A) → Some x ≡ Some y → x ≡ y
-some_same x y e = cc
 
 last_known : (l : Option Last) (k : Last) → goes l ≡ true → Known l k → is_end k ≡ false
 last_known None k e h = h
@@ -418,13 +401,9 @@ weighs v k z d s x n m head t h e = none_some x h
 sort_moves : (τ : Sort) (z : Nesting) (d : ℕ) (s x : State) (n m : Nesting) → is_parameter z.head ≡ false → Tracks z d s n → moves_on τ s ≡ Some x → step n τ ≡ Some m → Tracks z d x m
 unfolding step
 sort_moves τ z d s x n m head t h e =
-    let g : (goes s.last ≡ true) × (last_is (last_of τ) (moved (weight_of τ) s) ≡ Some x) = went (goes s.last) (last_is (last_of τ) (moved (weight_of τ) s)) h in
+    let g : (goes s.last ≡ true) × (last_is (last_of τ) (moved (weight_of τ) s) ≡ Some x) = went (goes s.last) (last_is (last_of τ) (moved (weight_of τ) s)) x h in
     let same : ended n (weight_of τ) ≡ n = ended_same n (weight_of τ) t.skips (last_known s.last n.last g.0 t.last) in
     weighs (weight_of τ) (last_of τ) z d s x n m head t g.1 (sym (ap (λ (i : Nesting). with_last (last_of τ) (weighed i (weight_of τ))) same) ∙ e)
-  where
-    went : (b : Bool) (o : Option State) → (if b then o else None) ≡ Some x → (b ≡ true) × (o ≡ Some x)
-    went true o e = (refl, e)
-    went false o e = cc
 
 abbrev marks_in_order : List Mark
 marks_in_order = marks.Ampersand ∷ marks.Tick ∷ marks.Open ∷ marks.Close ∷ marks.Star ∷ marks.Plus ∷ marks.Comma ∷ marks.Minus ∷ marks.Dot ∷ marks.Slash ∷ marks.Colon ∷ marks.Semicolon ∷ marks.Less ∷ marks.Equal ∷ marks.Greater ∷ marks.Bar ∷ marks.Arrow ∷ marks.Dots ∷ marks.Power ∷ marks.Becomes ∷ marks.NotEqual ∷ marks.AtLeast ∷ marks.AtMost ∷ marks.OpenLabel ∷ marks.CloseLabel ∷ marks.Box ∷ []
@@ -433,7 +412,7 @@ mark_named : (a : Mark) → get_or marks_in_order (mark_number a) marks.Ampersan
 mark_named marks.Ampersand = refl
 mark_named a = refl
 
-one_mark : (a b : Mark) → same_mark a b ≡ true → a ≡ b
+pub one_mark : (a b : Mark) → same_mark a b ≡ true → a ≡ b
 one_mark a b e = sym (mark_named a) ∙ (ap (λ n. get_or marks_in_order n marks.Ampersand) (eqb-true (mark_number a) (mark_number b) e) ∙ mark_named b)
 
 relational : (m : Mark) (s x : State) → is_relational m ≡ true → moves classes.Relational s ≡ Some x → moves_on (MarkSort m) s ≡ Some x

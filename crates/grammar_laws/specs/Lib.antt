@@ -1,2 +1,3 @@
 pub mod PlainRules
 pub mod Counting
+pub mod Closing

@@ -4,7 +4,9 @@
 mod limits;
 mod rules;
 
-pub use limits::{operators_are_counted, outermost_operators_are_counted};
+pub use limits::{
+    operators_are_counted, outermost_operators_are_counted, statements_close_what_they_open,
+};
 pub use rules::{
     arguments_are_plain, choices_are_plain, expressions_are_plain, memberships_are_plain,
     parentheses_are_plain, ranges_are_plain,
