@@ -1,10 +1,6 @@
 -- What the limits know at a place among statements and declarations, and what a token does to it.
-use Rattle.std.proofs.Common.{◌≡◌, ◌⊎◌, inl, inr, ℕ, zero, suc, ◌+◌, ◌-◌, ◌<◌, ◌≤◌, Bool, true, false, not, ◌&&◌, ◌||◌, if◌then◌else◌, nat_lt, nat_eq, nat_le, List, [], ◌∷◌, ◌++◌, Option, Some, None, refl, sym, ◌∙◌, ap, subst, arith}
-use Rattle.std.proofs.lemmas.Bool.{ltb-false, ltb-true, eqb-true, leb-true, leb-false, le-ltb, ne_eqb}
-use Rattle.ada_tree.specs.declared.token.Mark.{Mark}
-use Rattle.ada_tree.specs.declared.token.Mark.TheVariants as marks
-use Rattle.ada_tree.specs.declared.words.Reserved.{Reserved}
-use Rattle.ada_tree.specs.declared.words.Reserved.TheVariants as words
+use Rattle.std.proofs.Common.{◌≡◌, ◌⊎◌, inl, inr, ℕ, zero, suc, ◌+◌, ◌-◌, ◌<◌, ◌≤◌, Bool, true, false, not, ◌&&◌, if◌then◌else◌, nat_lt, nat_eq, nat_le, Option, Some, None, refl, sym, ◌∙◌, ap, subst, arith}
+use Rattle.std.proofs.lemmas.Bool.{ltb-true, leb-true, leb-false, ne_eqb}
 use Rattle.ada_grammar.specs.declared.tokens.Last.{Last}
 use Rattle.ada_grammar.specs.declared.tokens.Last.TheVariants as lasts
 use Rattle.ada_grammar.specs.declared.tokens.LoopHead.{LoopHead}
@@ -15,7 +11,7 @@ use Rattle.ada_grammar.specs.declared.weights.Weight.TheVariants as weights
 use Rattle.ada_grammar.specs.Limits as limits
 use Rattle.ada_grammar.specs.Limits.{most_operators, most_open, most_compounds, most_loops, with_last, with_open, with_count, with_depth, with_statements, with_skips, weighed, ended, counts, counted, member, outside, anew, is_end, is_and, is_or, is_not, is_is, is_tick, is_parameter, is_headed, in_for_head}
 use Rattle.grammar_laws.proofs.Tracks.{Known}
-use Rattle.grammar_laws.proofs.Tests.{if_true, if_false, if_same, none_some, some_same, went, and_parts, not_true}
+use Rattle.grammar_laws.proofs.Tests.{if_true, if_false, if_same, some_same, went, and_parts, not_true}
 
 -- what is known: whether tokens are skipped, whether the depth is known from the ground, how many parentheses, compound
 -- statements and loops are open beside those from before, the head of a loop, whether in statements, the last token where

@@ -1,5 +1,5 @@
 -- Behind statements the open compound statements and loops are what they were.
-use Rattle.std.proofs.Common.{◌≡◌, ◌⊎◌, inl, inr, ℕ, zero, suc, ◌+◌, ◌-◌, ◌<◌, ◌≤◌, Bool, true, false, not, ◌&&◌, ◌||◌, if◌then◌else◌, nat_eq, nat_le, List, [], ◌∷◌, ◌++◌, Option, Some, None, refl, sym, ◌∙◌, ap, subst, arith, leb-true}
+use Rattle.std.proofs.Common.{◌≡◌, ℕ, zero, suc, ◌+◌, ◌-◌, ◌<◌, ◌≤◌, Bool, true, false, not, ◌&&◌, ◌||◌, if◌then◌else◌, nat_eq, nat_le, List, [], ◌∷◌, Option, Some, None, refl, sym, ◌∙◌, ap, subst, arith, leb-true}
 use Rattle.std.proofs.lemmas.Bool.{eqb-true}
 use Rattle.ada_tree.specs.declared.token.TokenKind.{TokenKind}
 use Rattle.ada_tree.specs.declared.token.TokenKind.TheVariants as kinds
@@ -31,20 +31,19 @@ use Rattle.ada_grammar.specs.declared.tokens.LoopHead.TheVariants as heads
 use Rattle.ada_grammar.specs.declared.tokens.Nesting.{Nesting}
 use Rattle.ada_grammar.specs.declared.weights.Weight.{Weight}
 use Rattle.ada_grammar.specs.declared.weights.Weight.TheVariants as weights
-use Rattle.ada_grammar.specs.Numbers.{same_word, same_mark}
 use Rattle.ada_grammar.specs.Sorts.{Sort, WordSort, NumberSort, ReservedSort, MarkSort, is_in, is_word, sort_of, opens_statement, opens_compound, opens_local}
 use Rattle.ada_grammar.specs.Lexemes.{Lexeme, sort}
-use Rattle.ada_grammar.specs.Limits.{is_end, is_parameter, weight_of, last_of, with_last, weighed, ended, step, step_on, walk, walk_on, most_operators}
+use Rattle.ada_grammar.specs.Limits.{is_end, is_parameter, weight_of, last_of, step, walk}
 use Rattle.ada_grammar.specs.Phrases as phrases
 use Rattle.ada_grammar.specs.Phrases.{Phrase, Tree, Children}
-use Rattle.ada_grammar.specs.Parts.{Part, Expr, Continued, RestOfExpr, BehindAnd, BehindOr, Opened, Begun, Chain, Rel, RestOfRel, Membership, Simple, Signed, Sums, Term, Products, Factor, Powered, Primary, Parens, Condition, Arms, InParens, NamedFrom, BehindExpr, Items, LastItem, Association, Choices, Associations, Choice, Name, Suffixes, MayOpen, BehindTick, BehindAttribute, ValuesFrom, Values, ArgumentsFrom, Arguments, Argument, Drange, SubtypeRange, UnitName, Points, Indication, IndicationFrom, SkippedTokens, Pragma, BehindWith, MoreAspects, Aspect, AspectOf, Defined, Atomic, SkippedAspect, DefinitionOf, NullOrItems, ItemsFrom, MoreItems, GlobalDefinition, InGlobal, ModesFrom, MoreModes, DependsDefinition, Elements, MoreElements, Element, Dependency, Refinement, Initialization, RefinedDefinition, InitializesDefinition, PartOf, StatesDefinition, InStates, MoreStates, State, StateWithOptions, Closing, Names, BehindNames, Object, ObjectFrom, Component, Formal, FormalMark, LocalDeclarations, LocalDeclaration, UnitNames, MoreUnitNames, TypeDefinition, Literals, MoreLiterals, RangeType, ArrayType, Components, MoreComponents, Statements, MoreStatements, Statement, NamedStatement, BehindName, Labelled, If, MoreArms, EndIf, Case, MoreAlternatives, Alternative, MoreChoices, While, For, ForRange, LoopBody, Declare, BlockBody, EndOfStatement, Exit, Return, Formals, Balanced, Body, Never, Gives, Take, Call, Rest, Or, When, is_none, one_less}
+use Rattle.ada_grammar.specs.Parts.{Part, Expr, Continued, RestOfExpr, BehindAnd, BehindOr, Opened, Begun, Chain, Rel, RestOfRel, Membership, Simple, Signed, Sums, Term, Products, Factor, Powered, Primary, Parens, Condition, Arms, InParens, NamedFrom, BehindExpr, Items, LastItem, Association, Choices, Associations, Choice, Name, Suffixes, MayOpen, BehindTick, BehindAttribute, ValuesFrom, Values, ArgumentsFrom, Arguments, Argument, Drange, SubtypeRange, UnitName, Points, Indication, IndicationFrom, SkippedTokens, Pragma, BehindWith, MoreAspects, Aspect, AspectOf, Defined, Atomic, SkippedAspect, DefinitionOf, NullOrItems, ItemsFrom, MoreItems, GlobalDefinition, InGlobal, ModesFrom, MoreModes, DependsDefinition, Elements, MoreElements, Element, Dependency, Refinement, Initialization, RefinedDefinition, InitializesDefinition, PartOf, StatesDefinition, InStates, MoreStates, State, StateWithOptions, Closing, Names, BehindNames, Object, ObjectFrom, Component, Formal, FormalMark, LocalDeclarations, LocalDeclaration, UnitNames, MoreUnitNames, TypeDefinition, Literals, MoreLiterals, RangeType, ArrayType, Components, MoreComponents, Statements, MoreStatements, Statement, NamedStatement, BehindName, Labelled, If, MoreArms, EndIf, Case, MoreAlternatives, Alternative, MoreChoices, While, For, ForRange, LoopBody, Declare, BlockBody, EndOfStatement, Exit, Return, Balanced, Body, Never, Gives, Take, Call, Rest, Or, When, is_none, one_less}
 use Rattle.ada_grammar.specs.Grammar.{rule}
 use Rattle.ada_grammar.specs.Spelling.{Fits, gives, take, call, rest, left, right, yes, no, Spells}
 use Rattle.ada_grammar.proofs.EverySort.{all_sorts, by_sort, one_word}
 use Rattle.grammar_laws.specs.Closing.{InStatements, IsClosed}
 use Rattle.grammar_laws.proofs.Tracks.{Known, was_other, Tracks, one_mark}
-use Rattle.grammar_laws.proofs.Counted.{is_part, closes, floor, roof, needed, behind_in, serves, serves_goes, begins as begins_expression, finishes, owed as owed_expression, sound, between, walk_parts}
-use Rattle.grammar_laws.proofs.Places.{Place, Held, Keeps, more_than_none, was_end, weighed_by, skipped_by, then_plain, ended_by, last_put, weighed_at}
+use Rattle.grammar_laws.proofs.Counted.{is_part, closes, floor, roof, needed, behind_in, serves, serves_goes, begins as begins_expression, owed as owed_expression, sound, between, walk_parts}
+use Rattle.grammar_laws.proofs.Places.{Place, Keeps, more_than_none, was_end, weighed_by, skipped_by, then_plain, ended_by, last_put, weighed_at}
 use Rattle.grammar_laws.proofs.Formed.{Holds, each, nothing}
 use Rattle.ada_grammar.proofs.Begins.{only_if, holds}
 use Rattle.grammar_laws.proofs.Tests.{if_true, if_false, none_some, some_same, went, and_parts, not_true, true_false, false_true}

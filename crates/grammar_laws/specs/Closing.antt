@@ -1,5 +1,5 @@
 -- What the limits know before and behind statements.
-use Rattle.std.specs.Prelude.{ℕ, ◌≡◌, ◌≤◌, true, false}
+use Rattle.std.specs.Prelude.{◌≡◌, ◌≤◌, true, false}
 use Rattle.ada_grammar.specs.declared.tokens.LoopHead.TheVariants as heads
 use Rattle.ada_grammar.specs.declared.tokens.Nesting.{Nesting}
 use Rattle.ada_grammar.specs.Limits.{is_end, most_operators}
