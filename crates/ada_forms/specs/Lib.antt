@@ -1,0 +1,3 @@
+pub mod AttributeWords
+pub mod Declarations
+pub mod Forms

@@ -1,0 +1,3 @@
+pub mod Overs
+pub mod Told
+pub mod Spines
