@@ -26,7 +26,8 @@ Opens of ts cursor (Err e) = (a : Phrase) → Fails (RestOfExpr a) ts cursor e
 pub record IsLinked (operator : LogicalOperator) (ts : List Lexeme) (cursor : Cursor) (t : Lexeme) (next : Cursor) : Type 0 where
   pub forward : cursor.at < next.at
   pub ends : next.at ≤ length ts
-  pub awaits : (a : Phrase) → Awaits (Chain operator a) (point ts cursor) (point ts next) (Call (Begun operator a t) (λ b. Rest (Chain operator b)))
+  pub awaits : (a : Phrase) → Awaits (Chain operator a) (point ts cursor) (point ts next)
+      (Call (Begun operator a t) (λ b. Rest (Chain operator b)))
 
 abbrev pub Links : LogicalOperator → (Token → Lexeme) → List Lexeme → Cursor → Result (Option (Token × Cursor)) Fault → Type 0
 Links operator of ts cursor (Ok None) = (a : Phrase) → Awaits (Chain operator a) (point ts cursor) (point ts cursor) (Gives a)
@@ -34,7 +35,8 @@ Links operator of ts cursor (Ok (Some (t, next))) = IsLinked operator ts cursor 
 Links operator of ts cursor (Err e) = (a : Phrase) → Fails (Chain operator a) ts cursor e
 
 -- from the cursor to the next one suffix of the name stands, and more may follow
-pub record IsSuffixed (part : Part) (ts : List Lexeme) (cursor : Cursor) (built : List Tree) (x : Built) (next : Cursor) (may_open : Bool) : Type 0 where
+pub record IsSuffixed (part : Part) (ts : List Lexeme) (cursor : Cursor) (built : List Tree) (x : Built) (next : Cursor)
+    (may_open : Bool) : Type 0 where
   pub within : x.node.0 < length built
   pub forward : cursor.at < next.at
   pub ends : next.at ≤ length ts
@@ -45,7 +47,8 @@ Suffixed part ts cursor built (Ok (x, next, may_open)) = IsSuffixed part ts curs
 Suffixed part ts cursor built (Err e) = Fails part ts cursor e
 
 -- the same where none may stand
-abbrev pub MaybeSuffixed : Bool → Phrase → List Lexeme → Cursor → List Tree → Result (Option (Built × Cursor × Bool)) Fault → Type 0
+abbrev pub MaybeSuffixed : Bool → Phrase → List Lexeme → Cursor → List Tree
+    → Result (Option (Built × Cursor × Bool)) Fault → Type 0
 MaybeSuffixed m a ts cursor built (Ok None) = Awaits (Suffixes m a) (point ts cursor) (point ts cursor) (Gives a)
 MaybeSuffixed m a ts cursor built (Ok (Some (x, next, may_open))) = IsSuffixed (Suffixes m a) ts cursor built x next may_open
 MaybeSuffixed m a ts cursor built (Err e) = Fails (Suffixes m a) ts cursor e

@@ -1,5 +1,6 @@
 -- Which trees stand at the numbers of nodes.
-use Rattle.std.specs.Prelude.{◌≡◌, ℕ, ◌<◌, ◌≤◌, length, List, [], ◌∷◌, ◌++◌, map, slice_get, Option, Some, None, Result, Ok, Err}
+use Rattle.std.specs.Prelude.{◌≡◌, ℕ, ◌<◌, ◌≤◌, length, List, [], ◌∷◌, ◌++◌, map, slice_get}
+use Rattle.std.specs.Prelude.{Option, Some, None, Result, Ok, Err}
 use Rattle.spark_base.specs.declared.numbers.ExprNo.{ExprNo}
 use Rattle.spark_base.specs.declared.numbers.StmtNo.{StmtNo}
 use Rattle.spark_base.specs.declared.numbers.DeclNo.{DeclNo}
@@ -15,7 +16,8 @@ use Rattle.ada_grammar.specs.declared.children.SharedChildren as shared
 use Rattle.ada_grammar.specs.declared.tokens.Cursor.{Cursor}
 use Rattle.ada_grammar.specs.declared.tokens.Fault.{Fault}
 use Rattle.ada_grammar.specs.Lexemes.{Lexeme}
-use Rattle.ada_grammar.specs.Phrases.{OfStmt, OfDecl, OfAspect, OfUnit, Head, Tree, Root, with_all, Children, with_expr, Phrase, gives, blank}
+use Rattle.ada_grammar.specs.Phrases.{OfStmt, OfDecl, OfAspect, OfUnit, Head, Tree, Root, with_all, Children, with_expr, Phrase, gives}
+use Rattle.ada_grammar.specs.Phrases.{blank}
 use Rattle.ada_grammar.specs.Built.{trees, tree_at, written, Extends}
 use Rattle.ada_grammar.specs.Parts.{Part}
 use Rattle.ada_grammar.specs.Reading.{point, Reads, Fails}
@@ -43,7 +45,8 @@ decl_node (Some n) = Some (record { kind = OfDecl n.kind; span = n.span; name = 
 
 abbrev pub aspect_node : Option AspectNode → Option (Head × List Ref)
 aspect_node None = None
-aspect_node (Some n) = Some (record { kind = OfAspect n.kind; span = n.span; name = written n.name }, refs n.exprs n.stmts n.decls n.aspects)
+aspect_node (Some n) =
+    Some (record { kind = OfAspect n.kind; span = n.span; name = written n.name }, refs n.exprs n.stmts n.decls n.aspects)
 
 abbrev pub unit_node : Option declared_unit.Unit → Option (Head × List Ref)
 unit_node None = None
@@ -72,8 +75,12 @@ AreUnder r (s ∷ rs) = IsBelow r s × AreUnder r rs
 -- these trees stand at these numbers
 pub data Stands (u : Units) : List Ref → List Tree → Type 0 where
   nowhere : Stands u [] []
-  expression : {n : ExprNo} {t : Tree} {rs : List Ref} {ts : List Tree} → n.0 < length (trees u.exprs) → t ≡ tree_at (trees u.exprs) n → Stands u rs ts → Stands u (ExprRef n ∷ rs) (t ∷ ts)
-  over : {r : Ref} {t : Tree} {h : Head} {cs rs : List Ref} {under ts : List Tree} → node_at u r ≡ Some (h, cs) → AreUnder r cs → Stands u cs under → t ≡ with_all (Root h) under → Stands u rs ts → Stands u (r ∷ rs) (t ∷ ts)
+  expression : {n : ExprNo} {t : Tree} {rs : List Ref} {ts : List Tree}
+      → n.0 < length (trees u.exprs) → t ≡ tree_at (trees u.exprs) n
+      → Stands u rs ts → Stands u (ExprRef n ∷ rs) (t ∷ ts)
+  over : {r : Ref} {t : Tree} {h : Head} {cs rs : List Ref} {under ts : List Tree}
+      → node_at u r ≡ Some (h, cs) → AreUnder r cs → Stands u cs under → t ≡ with_all (Root h) under
+      → Stands u rs ts → Stands u (r ∷ rs) (t ∷ ts)
 
 -- the children that names share
 abbrev pub shared_children : shared.SharedChildren → held.Children
@@ -129,7 +136,8 @@ Finds part ts cursor u r (Ok next) = Found part ts cursor u r next
 Finds part ts cursor u r (Err e) = Fails part ts cursor e
 
 -- the tokens from the cursor to the next are read as an expression, which is held behind those children
-pub record FoundExpr (part : Part) (ts : List Lexeme) (cursor : Cursor) (u : Units) (r : held.Children) (d : Children) (next : Cursor) : Type 0 where
+pub record FoundExpr (part : Part) (ts : List Lexeme) (cursor : Cursor) (u : Units) (r : held.Children) (d : Children)
+    (next : Cursor) : Type 0 where
   pub phrase : Phrase
   pub holds : Holds u r (with_expr d phrase.tree)
   pub forward : cursor.at ≤ next.at

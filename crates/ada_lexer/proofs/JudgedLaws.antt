@@ -1,5 +1,6 @@
 -- What judging makes of a front, by what the front is.
 use Rattle.std.proofs.Common.{◌≡◌, ℕ, ◌+◌, ◌*◌, ◌^◌, ◌<◌, inl, inr, List, [], ◌∷◌, Bool, true, false, ◌&&◌, ◌||◌, if◌then◌else◌, None, Some, Ok, Err, Result, refl, ap, sym, subst, ◌∙◌, arith, nat_eq, nat_le, take, drop, ◌≤◌}
+use Rattle.spark_messages.proofs.Bools.{both}
 use Rattle.std.specs.declared.option.Option.{Option}
 use Rattle.std.proofs.lemmas.Bool.Decides.{nat_tests}
 use Rattle.ada_lexer.specs.Classes.{digit_of, is_digit, is_letter, is_white, is_printable}
@@ -71,10 +72,6 @@ judged_tells ticked bytes n l =
     seven ticked bytes n l (space front) (comment front) (word front) (number front) (text front) (character front) (mark_of front) refl refl refl refl refl refl refl l.passes
 
 -- the other way round, by the kind
-
-both : (x y : Bool) → (x && y) ≡ true → (x ≡ true) × (y ≡ true)
-both true y h = (refl, h)
-both false y h = cc
 
 eq_is : (a b : ℕ) → nat_eq a b ≡ true → a ≡ b
 eq_is a b h = grind (arith, nat_tests)

@@ -1,5 +1,6 @@
 -- What the test of a number passes is a number by its parts.
 use Rattle.std.proofs.Common.{◌≡◌, ℕ, ◌+◌, ◌*◌, ◌⊎◌, inl, inr, List, [], ◌∷◌, ◌++◌, Bool, true, false, ◌&&◌, if◌then◌else◌, refl, ap, sym, subst, ◌∙◌, arith, nat_eq}
+use Rattle.spark_messages.proofs.Bools.{both}
 use Rattle.std.proofs.lemmas.Bool.Decides.{nat_tests}
 use Rattle.ada_lexer.specs.Classes.{digit_of, is_digit, is_e, base_of}
 use Rattle.ada_lexer.specs.Pieces.{parted, exponent, scale, based, number_from, number}
@@ -8,10 +9,6 @@ use Rattle.ada_lexer.specs.Laws.{IsDecimal, IsRest, IsBased}
 
 is_35 : (b : ℕ) → nat_eq b 35 ≡ true → b ≡ 35
 is_35 b h = grind (arith, nat_tests)
-
-both : (x y : Bool) → (x && y) ≡ true → (x ≡ true) × (y ≡ true)
-both true y h = (refl, h)
-both false y h = cc
 
 digit_first : (base b : ℕ) (due : Bool) (ds : List ℕ) → is_digit base b ≡ true → parted base false ds ≡ true → parted base due (b ∷ ds) ≡ true
 digit_first base b due ds h k = rw h k

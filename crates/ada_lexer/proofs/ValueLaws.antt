@@ -1,5 +1,6 @@
 -- The value of a number is that of its parts.
 use Rattle.std.proofs.Common.{◌≡◌, ℕ, suc, ◌+◌, ◌*◌, ◌^◌, ◌<◌, List, [], ◌∷◌, ◌++◌, Bool, true, false, ◌&&◌, if◌then◌else◌, length, take, drop, refl, ap, sym, ◌∙◌, arith, nat_eq, nat_lt, length-append}
+use Rattle.spark_messages.proofs.Bools.{both}
 use Rattle.std.proofs.lemmas.Bool.Decides.{nat_tests}
 use Rattle.ada_lexer.specs.Classes.{digit_of, is_digit, is_e, base_of}
 use Rattle.ada_lexer.specs.Pieces.{parted, exponent, scale}
@@ -48,10 +49,6 @@ e_no_hash b h = grind (arith, nat_tests)
 
 plus_no_hash : (b : ℕ) → nat_eq b 43 ≡ true → is_hash b ≡ false
 plus_no_hash b h = grind (arith, nat_tests)
-
-both : (x y : Bool) → (x && y) ≡ true → (x ≡ true) × (y ≡ true)
-both true y h = (refl, h)
-both false y h = cc
 
 exponent_cases : (b : ℕ) (bs : List ℕ) (c : Bool) → nat_eq b 43 ≡ c → (if c then parted 10 true bs else parted 10 true (b ∷ bs)) ≡ true → Clean is_hash (b ∷ bs)
 exponent_cases b bs true e h = clean_more is_hash b bs (plus_no_hash b e) (clean is_hash 10 true bs decimal_no_hash line_no_hash h)

@@ -1,5 +1,6 @@
 -- The tokens of a source, or its refusal.
-use Rattle.std.specs.Prelude.{ℕ, zero, suc, ◌+◌, ◌-◌, ◌*◌, ◌^◌, Bool, true, false, if◌then◌else◌, nat_eq, nat_lt, nat_le, List, [], ◌∷◌, ◌++◌, Option, Some, None, Result, Ok, Err, take, drop, length, slice_index}
+use Rattle.std.specs.Prelude.{ℕ, zero, suc, ◌+◌, ◌-◌, ◌*◌, ◌^◌, Bool, true, false, if◌then◌else◌, nat_eq, nat_lt, nat_le, List, [], ◌∷◌}
+use Rattle.std.specs.Prelude.{◌++◌, Option, Some, None, Result, Ok, Err, take, drop, length, slice_index}
 use Rattle.ada_lexer.specs.Classes.{digit_of, is_letter, is_digit, is_e, is_plain, base_of}
 use Rattle.ada_lexer.specs.Pieces.{every, space, comment, word, number, character, text, mark_of, allowed, longest}
 use Rattle.ada_tree.specs.declared.token.Mark.{Mark}
@@ -51,7 +52,8 @@ based_value base rest = scaled (base_of (value_from 10 0 base)) (take (before is
 -- the value of a number: what stands before a # is its base, and what stands before an E its digits
 unfoldable pub number_value : List ℕ → ℕ
 number_value bytes =
-    if nat_lt (before is_hash bytes) (length bytes) then based_value (take (before is_hash bytes) bytes) (drop (before is_hash bytes + 1) bytes)
+    if nat_lt (before is_hash bytes) (length bytes)
+    then based_value (take (before is_hash bytes) bytes) (drop (before is_hash bytes + 1) bytes)
     else scaled 10 (take (before is_e bytes) bytes) (drop (before is_e bytes) bytes)
 
 -- whether there is a first byte, and it passes
@@ -59,7 +61,8 @@ abbrev pub starts : (ℕ → Bool) → List ℕ → Bool
 starts test [] = false
 starts test (b ∷ bs) = test b
 
--- whether what stands behind a number makes it malformed: a letter; a point and a digit; an underscore that follows a digit; a # that follows digits alone
+-- whether what stands behind a number makes it malformed: a letter; a point and a digit; an underscore that follows a digit;
+-- a # that follows digits alone
 abbrev pub spoils : List ℕ → List ℕ → Bool
 spoils front [] = false
 spoils front (b ∷ bs) =
@@ -180,7 +183,9 @@ abbrev pub cut_from : FileNo → List ℕ → ℕ → ℕ → Bool → List ℕ 
 cut_from file source at left ticked [] = Ok []
 cut_from file source at (suc left) ticked (b ∷ bs) = cut_from file source (at + 1) left ticked bs
 cut_from file source at zero ticked (b ∷ bs) = elim (piece_at ticked (b ∷ bs)) [
-  | Ok p ↦ after_tokens (token_of (span file source at (at + p.len)) at p.len p.kind) (cut_from file source (at + 1) (p.len - 1) (ticks ticked p.kind) bs)
+  | Ok p ↦ after_tokens
+      (token_of (span file source at (at + p.len)) at p.len p.kind)
+      (cut_from file source (at + 1) (p.len - 1) (ticks ticked p.kind) bs)
   | Err f ↦ Err (record { code = f.code; place = place source (at + f.at) })
 ]
 

@@ -6,7 +6,8 @@ use Rattle.ada_tree.specs.declared.token.TokenKind.TheVariants as kinds
 use Rattle.spark_base.specs.declared.numbers.FileNo.{FileNo}
 use Rattle.spark_messages.specs.declared.messages.Code.{Code}
 use Rattle.spark_messages.specs.declared.messages.Code.TheVariants.{L01, L02, L03, L04}
-use Rattle.std.specs.Prelude.{[], ◌≡◌, ◌⊎◌, ℕ, ◌+◌, ◌^◌, ◌<◌, ◌≤◌, List, ◌++◌, ◌∷◌, Bool, true, false, if◌then◌else◌, length, take, drop, Option, Some, None}
+use Rattle.std.specs.Prelude.{[], ◌≡◌, ◌⊎◌, ℕ, ◌+◌, ◌^◌, ◌<◌, ◌≤◌, List, ◌++◌, ◌∷◌, Bool, true, false, if◌then◌else◌, length, take, drop}
+use Rattle.std.specs.Prelude.{Option, Some, None}
 use Rattle.ada_lexer.specs.Pieces.{allowed, space, comment, word, number, text, character, mark_of}
 use Rattle.ada_lexer.specs.Cut.{number_value, spoils, is_quote, is_high, first_high, starts, ticks, place, span}
 use Rattle.ada_lexer.specs.Laws.{IsLongest, NonePasses}

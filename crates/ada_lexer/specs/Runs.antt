@@ -1,5 +1,7 @@
--- How far the code reads, by one pass over a list. Only contracts of private functions and invariants speak of these: what the tokens of a source are rests on none of them.
-use Rattle.std.specs.Prelude.{ℕ, suc, ◌+◌, ◌*◌, ◌^◌, nat_le, Bool, true, false, if◌then◌else◌, nat_eq, nat_lt, ◌&&◌, List, [], ◌∷◌, Option, Some, None, Result, take}
+-- How far the code reads, by one pass over a list. Only contracts of private functions and invariants speak of these: what the
+-- tokens of a source are rests on none of them.
+use Rattle.std.specs.Prelude.{ℕ, suc, ◌+◌, ◌*◌, ◌^◌, nat_le, Bool, true, false, if◌then◌else◌, nat_eq, nat_lt, ◌&&◌, List, [], ◌∷◌, Option}
+use Rattle.std.specs.Prelude.{Some, None, Result, take}
 use Rattle.ada_lexer.specs.Classes.{digit_of, is_digit, is_e, base_of, is_inner, is_printable}
 use Rattle.ada_tree.specs.Marks.{single, double}
 use Rattle.ada_lexer.specs.Cut.{fault, piece, text_end, first_high}

@@ -1,9 +1,7 @@
 -- Nodes that are added behind their children keep the order.
-use Rattle.std.proofs.Common.{◌≡◌, ◌≢◌, ℕ, zero, suc, ◌+◌, ◌<◌, ◌≤◌, ◌⊎◌, inl, inr, List, [], ◌∷◌, ◌++◌, Some, length, refl, sym, ap, subst, arith, length-append}
+use Rattle.std.proofs.Common.{◌≡◌, ℕ, zero, suc, ◌+◌, ◌≤◌, List, [], ◌∷◌, ◌++◌, Some, length, sym, ap, subst, arith, length-append}
 use Rattle.std.specs.Prelude.{slice_get}
-use Rattle.std.specs.List.{All}
 use Rattle.std.proofs.lemmas.Option.{none-some, same_Some}
-use Rattle.std.proofs.lemmas.List.Elements.{All-nil}
 use Rattle.spark_base.specs.declared.numbers.AspectNo.{AspectNo}
 use Rattle.spark_base.specs.declared.numbers.DeclNo.{DeclNo}
 use Rattle.spark_base.specs.declared.numbers.ExprNo.{ExprNo}
