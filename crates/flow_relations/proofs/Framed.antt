@@ -175,10 +175,10 @@ module _ (name place : ℕ → ℕ) (n void : ℕ) (naming : IsNaming name place
 
   module _ (R T : ℕ → ℕ → Type 0) (c : Type 0) where
     pub pairs_spread : ((i j : ℕ) → i ≤ n → j ≤ n → R i j ↔ T (name i) (name j))
-      → ((v w : ℕ) → T v w → (v ≤ void) × (w ≤ void))
-      → ((v w : ℕ) → IsOutside name n void v → (c × (v ≡ w)) ↔ T v w)
-      → ((v w : ℕ) → IsOutside name n void w → T v w → v ≡ w)
-      → (v w : ℕ) → SpreadsAll name n void R c v w ↔ T v w
+        → ((v w : ℕ) → T v w → (v ≤ void) × (w ≤ void))
+        → ((v w : ℕ) → IsOutside name n void v → (c × (v ≡ w)) ↔ T v w)
+        → ((v w : ℕ) → IsOutside name n void w → T v w → v ≡ w)
+        → (v w : ℕ) → SpreadsAll name n void R c v w ↔ T v w
     pairs_spread numbers within outer inner v w = (there, back)
       where
         there : SpreadsAll name n void R c v w → T v w
@@ -306,14 +306,20 @@ module _ (name place : ℕ → ℕ) (n void : ℕ) (naming : IsNaming name place
       can = λ o. (λ y. y, λ y. y);
       kept = λ o. pairs_spread (λ i j. (o ≡ Next) × (((i ≤ n) × (i ≡ j) × (i ≢ place x)) ⊎ ((i ≡ n) × (j ≡ place x)))) (λ v w. (o ≡ Next) × (((v ≤ void) × (v ≡ w) × (v ≢ x)) ⊎ ((v ≡ void) × (w ≡ x)))) (o ≡ Next)
           (λ i j l m. (
-            λ h. (h.0, elim h.1 [
-              | inl y ↦ inl (name_most i l, ap name y.1, other_leaf i l y.2)
-              | inr y ↦ inr (ap name y.0 ∙ naming.last, ap name y.1 ∙ inside.leaf)
-            ]),
-            λ h. (h.0, elim h.1 [
-              | inl y ↦ inl (l, one i j l m y.1, other_number i y.2)
-              | inr y ↦ inr (one i n l (omega arith) (y.0 ∙ sym naming.last), number_is j m y.1)
-            ]),
+            λ h. (
+              h.0,
+              elim h.1 [
+                | inl y ↦ inl (name_most i l, ap name y.1, other_leaf i l y.2)
+                | inr y ↦ inr (ap name y.0 ∙ naming.last, ap name y.1 ∙ inside.leaf)
+              ],
+            ),
+            λ h. (
+              h.0,
+              elim h.1 [
+                | inl y ↦ inl (l, one i j l m y.1, other_number i y.2)
+                | inr y ↦ inr (one i n l (omega arith) (y.0 ∙ sym naming.last), number_is j m y.1)
+              ],
+            ),
           ))
           (λ v w h. elim h.1 [
             | inl y ↦ (y.0, subst (λ u. u ≤ void) y.1 y.0)
@@ -335,7 +341,7 @@ module _ (name place : ℕ → ℕ) (n void : ℕ) (naming : IsNaming name place
 
   -- what an expression reads is inside, and so is the place that is set
   setting_spread : (to : Spot) (from : ℕ → Type 0) (S : ℕ → Type 0) → ((v : ℕ) → reads_of_spot to v → Inside v) → ((v : ℕ) → Told from v ↔ S v)
-    → IsSame (spread name n void (setting n (renamed_spot place to) from)) (setting void to S)
+      → IsSame (spread name n void (setting n (renamed_spot place to) from)) (setting void to S)
   setting_spread (At leaf part true cells) from S h s =
       same_through _ _ _ (moving_spread leaf (h leaf (inl refl)) _)
       (moving_same void leaf _ _ (λ v. either_spread from (reads_of_all (renamed_all place part)) S (reads_of_all part) v (s v) (all_spread part (λ u y. h u (inr y)) v)))
@@ -362,7 +368,7 @@ module _ (name place : ℕ → ℕ) (n void : ℕ) (naming : IsNaming name place
   barrier_spread (Some leaf) h v = leaf_spread leaf.0 (h leaf.0 refl) v
 
   guarding_spread : (b : Option LeafNo) (f g : Flow) → ((v : ℕ) → IsBarrier b v → Inside v) → IsSame (spread name n void f) g
-    → IsSame (spread name n void (guarding (renamed_barrier place b) f)) (guarding b g)
+      → IsSame (spread name n void (guarding (renamed_barrier place b) f)) (guarding b g)
   guarding_spread b f g h s = record {
     reads = λ v. either_spread (IsBarrier (renamed_barrier place b)) f.reads (IsBarrier b) g.reads v (barrier_spread b h v) (s.reads v);
     writes = s.writes;

@@ -79,7 +79,7 @@ module _ (name : ℕ → ℕ) (n void : ℕ) where
 
 -- code that names leaves of the frame alone has the flow of its numbers
 pub frame_spread : (p : Program) (b : ℕ) (r : Framing) → IsFramingOf p b r → (code : Code) → ((v : ℕ) → names_of (clock_among p.vars) code v → IsFrameLeaf p b v)
-  → IsSame (spread_of r.frame (framed p r.places code)) (plain_flow p code)
+    → IsSame (spread_of r.frame (framed p r.places code)) (plain_flow p code)
 frame_spread p b r h code inside =
     let clock = clock_among p.vars in
     let base = code_spread (name_at r.frame) (place_at r.places) r.places.void r.frame.void (naming_of p b r h) clock code (λ v x. h.inside v (inside v x)) in
@@ -88,13 +88,13 @@ frame_spread p b r h code inside =
     subst (λ u. IsSame (spread_of r.frame (framed p r.places code)) (flow u clock no_calls code)) h.void sized
 
 pub facts_spread : (p : Program) (b : ℕ) (r : Framing) → IsFramingOf p b r → (code : Code) → ((v : ℕ) → names_of (clock_among p.vars) code v → IsFrameLeaf p b v)
-  → (f : Flow) → IsSame f (framed p r.places code) → IsSame (spread_of r.frame f) (plain_flow p code)
+    → (f : Flow) → IsSame f (framed p r.places code) → IsSame (spread_of r.frame f) (plain_flow p code)
 facts_spread p b r h code inside f s = same_through _ _ _ (spread_same (name_at r.frame) (frame_size r.frame) r.frame.void f _ s) (frame_spread p b r h code inside)
 
 -- What the whole code of a body names
 
 opened_step : (clock : ℕ) (unset : ℕ → Bool) (first v : ℕ) (rest : Code) (Q : Type 0) → (names_of clock rest v → Q ⊎ (unset v ≡ true)) → (b : Bool) → unset first ≡ b
-  → names_of clock (cond b (Then (Clear first) rest) rest) v → Q ⊎ (unset v ≡ true)
+    → names_of clock (cond b (Then (Clear first) rest) rest) v → Q ⊎ (unset v ≡ true)
 opened_step clock unset first v rest Q h true e (inl x) = inr (ap unset x ∙ e)
 opened_step clock unset first v rest Q h true e (inr x) = h x
 opened_step clock unset first v rest Q h false e x = h x
@@ -133,7 +133,7 @@ unset_own p b formals v h = of_leaf (slice_get p.leaves v) h
     of_var w (Some x) h = unset_home b w formals x.home h
 
     of_leaf : (o : Option Leaf) → is_unset_leaf p b formals o ≡ true
-      → IsSomeAnd (elim o [ None ↦ None | Some l ↦ (elim (slice_get p.vars l.var.0) [ None ↦ None | Some x ↦ Some x.home ]) ]) (IsOwn b)
+        → IsSomeAnd (elim o [ None ↦ None | Some l ↦ (elim (slice_get p.vars l.var.0) [ None ↦ None | Some x ↦ Some x.home ]) ]) (IsOwn b)
     of_leaf None h = absurd (cc)
     of_leaf (Some l) h = of_var l.var.0 (slice_get p.vars l.var.0) h
 

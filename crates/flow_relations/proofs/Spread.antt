@@ -159,10 +159,13 @@ module _ (name place : ℕ → ℕ) (n void : ℕ) (places : (i : ℕ) → i ≤
         λ h. elim h [ inl r ↦ (r.0, (r.1.0, r.1.1, inl r.1.2)) | inr r ↦ (r.0, (r.1.0, r.1.1, inr r.1.2)) ],
       );
       decides = λ v. (
-        λ h. (h.1.2.0, elim h.1.2.1 [
-          | inl r ↦ inl (h.0, (h.1.0, h.1.1, r))
-          | inr r ↦ (elim r [ inl s ↦ inr (inl (h.0, (h.1.0, h.1.1, s))) | inr s ↦ inr (inr (h.0, (h.1.0, h.1.1, s))) ])
-        ]),
+        λ h. (
+          h.1.2.0,
+          elim h.1.2.1 [
+            | inl r ↦ inl (h.0, (h.1.0, h.1.1, r))
+            | inr r ↦ (elim r [ inl s ↦ inr (inl (h.0, (h.1.0, h.1.1, s))) | inr s ↦ inr (inr (h.0, (h.1.0, h.1.1, s))) ])
+          ],
+        ),
         λ h. elim h.1 [
           | inl r ↦ (r.0, (r.1.0, r.1.1, (h.0, inl r.1.2)))
           | inr r ↦ (elim r [ inl s ↦ (s.0, (s.1.0, s.1.1, (h.0, inr (inl s.1.2)))) | inr s ↦ (s.0, (s.1.0, s.1.1, (h.0, inr (inr s.1.2)))) ])

@@ -1,9 +1,11 @@
 -- The names of a body by numbers: what a flow of numbers says of leaves. A leaf without a number is not touched.
-use Rattle.std.specs.Prelude.{◌≡◌, ℕ, ◌+◌, ◌<◌, ◌≤◌, ◌^◌, ◌⊎◌, IsSomeAnd, length, slice_index_or}
+use Rattle.std.specs.Prelude.{◌≡◌, ℕ, ◌+◌, ◌<◌, ◌≤◌, ◌^◌, ◌⊎◌, Bool, List, IsSomeAnd, length, slice_index_or}
+use Rattle.spark_base.specs.declared.numbers.LeafNo.{LeafNo}
 use Rattle.core_form.specs.declared.program.Home.{Home}
 use Rattle.core_form.specs.declared.program.Program.{Program}
-use Rattle.core_form.specs.Code.{Code, Outcome}
+use Rattle.core_form.specs.Code.{Code}
 use Rattle.core_form.specs.Fine.{home_of}
+use Rattle.flow_bits.specs.Sets.{Has}
 use Rattle.flow_relations.specs.declared.frame.Frame.{Frame}
 use Rattle.flow_relations.specs.declared.frame.Framing.{Framing}
 use Rattle.flow_relations.specs.declared.frame.Places.{Places}
@@ -44,9 +46,24 @@ module _ (name : ℕ → ℕ) (n void : ℕ) where
 
 -- Frames
 
+-- the leaf at a place; behind the last, this one
+abbrev pub leaf_at : List LeafNo → ℕ → ℕ → ℕ
+leaf_at leaves i d = (slice_index_or leaves i (record { 0 = d })).0
+
+-- so many leaves are numbered: those of a set by their own places, in their order, and others by that of the first
+pub record AreNumbered (inside : List Bool) (leaf : ℕ) (leaves : List LeafNo) (numbers : List ℕ) : Type 0 where
+  pub count : length numbers ≡ leaf
+  pub few : length leaves ≤ leaf
+  pub first : 0 < leaf → 0 < length leaves
+  pub increasing : (i j d : ℕ) → i < j → j < length leaves → leaf_at leaves i d < leaf_at leaves j d
+  pub below : (i d : ℕ) → i < length leaves → leaf_at leaves i d < leaf
+  pub number : (i d e : ℕ) → i < length leaves → slice_index_or numbers (leaf_at leaves i d) e ≡ i
+  pub place : (v e : ℕ) → v < leaf → slice_index_or numbers v e < length leaves
+  pub named : (v d e : ℕ) → v < leaf → Has inside v → leaf_at leaves (slice_index_or numbers v e) d ≡ v
+
 -- the leaf of a number; behind the last stands "not assigned"
 abbrev pub name_at : Frame → ℕ → ℕ
-name_at frame i = (slice_index_or frame.leaves.items i (record { 0 = frame.void })).0
+name_at frame i = leaf_at frame.leaves.items i frame.void
 
 abbrev pub frame_size : Frame → ℕ
 frame_size frame = length frame.leaves.items

@@ -111,7 +111,13 @@ fn open_leaf(
     ensures set { starts_unset program.now body.0 formals.now leaf.0 ≡ false → facts.new ≡ facts.old }
 {
     if starts_unset(program, body, formals, leaf) {
-        prepend_clear(facts, places.void, places.number(leaf), &room.reads, &mut room.row);
+        prepend_clear(
+            facts,
+            places.void,
+            places.number(leaf),
+            &room.reads,
+            &mut room.row,
+        );
     }
 }
 
@@ -131,7 +137,7 @@ fn open_frame(
     ensures size { AreSized (places.now.void + 1) facts.new }
     ensures flow { (code : Code) → IsSame (told facts.old) (framed program.now places.now code)
         → IsSame (told facts.new) (framed program.now places.now
-            (opened (starts_unset program.now body.0 formals.now) (length program.now.leaves) 0 code)) }
+        (opened (starts_unset program.now body.0 formals.now) (length program.now.leaves) 0 code)) }
 {
     for leaf in (0..void_of(program)).rev() {
         open_leaf(program, places, body, formals, LeafNo(leaf), facts, room);

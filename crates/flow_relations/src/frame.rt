@@ -1,7 +1,6 @@
 ghost use Rattle.std.specs.Prelude.{◌≡◌, ℕ, ◌+◌, ◌<◌, ◌≤◌, ◌^◌, ◌⊎◌, length, IfOk, OnOk};
 ghost use Rattle.flow_bits.specs.Sets.{Has, Tells};
-ghost use Rattle.flow_relations.specs.Framing.{IsFrame, IsFraming, Spreads, frame_size, name_at, place_at};
-ghost use Rattle.flow_relations.specs.Told.{AreNumbered};
+ghost use Rattle.flow_relations.specs.Framing.{AreNumbered, IsFrame, IsFraming, Spreads, frame_size, name_at, place_at};
 
 use flow_bits::Row;
 use spark_base::{LeafNo, NoMemory};

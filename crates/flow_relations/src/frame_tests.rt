@@ -31,7 +31,12 @@ fn many(alloc: Global) -> Result<Program, NoMemory> {
         op: CoreOp::Add,
         args: Items::from_vec(vec![in alloc; ExprNo(0), ExprNo(1)]?),
     };
-    let exprs = vec![in alloc; read(alloc, FIRST), read(alloc, MIDDLE), sum, read(alloc, LOCAL)]?;
+    let exprs = vec![in alloc;
+        read(alloc, FIRST),
+        read(alloc, MIDDLE),
+        sum,
+        read(alloc, LOCAL),
+    ]?;
     let both = list(vec![in alloc; StmtNo(0), StmtNo(1)]?);
     let stmts = vec![in alloc; assign(alloc, LOCAL, 2), assign(alloc, LAST, 3), both]?;
     program(
@@ -51,11 +56,7 @@ fn is_frame(leaves: &[LeafNo]) -> bool {
 }
 
 fn depends(row: &BodyRow, v: u32, w: u32) -> bool {
-    relates(
-        &row.depends,
-        number(&row.frame, v),
-        number(&row.frame, w),
-    )
+    relates(&row.depends, number(&row.frame, v), number(&row.frame, w))
 }
 
 #[test]

@@ -22,8 +22,8 @@ returns-clause-flow c =
     let p = c.args.program.now in
     let same = body_spread p c.args.body.0 c.at.result.now c.at.ensures c.in_ok-frame.field-0 c.in_ok-frame.ensures (told c.in_ok-facts.facts) c.in_ok-facts.ensures.flow in
     rw c.at.ensures (
-      IfOk-weaker c.flow_from.result
-      (λ f. IsSame (flow_told f) (spread_of c.in_ok-frame.field-0.frame (told c.in_ok-facts.facts)))
-      (λ f. IsSame (flow_told f) (plain_flow p (code_of p.exprs p.stmts c.at.result.now.code)))
-      (λ f h. same_through _ _ _ h same)
-      c.flow_from.ensures.flow)
+    IfOk-weaker c.flow_from.result
+    (λ f. IsSame (flow_told f) (spread_of c.in_ok-frame.field-0.frame (told c.in_ok-facts.facts)))
+    (λ f. IsSame (flow_told f) (plain_flow p (code_of p.exprs p.stmts c.at.result.now.code)))
+    (λ f h. same_through _ _ _ h same)
+    c.flow_from.ensures.flow)

@@ -1,4 +1,4 @@
-use Rattle.flow_relations.specs.Told.{AreNumbered}
+use Rattle.flow_relations.specs.Framing.{AreNumbered}
 use Rattle.flow_relations.proofs.frame.frame_from.Given as goal
 
 abbrev pub invariant-loop-leaf : goal.invariant-loop-leaf

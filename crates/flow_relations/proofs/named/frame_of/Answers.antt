@@ -14,7 +14,7 @@ returns c =
     let row = c.in_ok-inside.inside in
     let size : length row ≡ length p.leaves + 1 = c.in_ok-inside.ensures.size in
     let inside : (v : ℕ) → IsFrameLeaf p b v → (v < length p.leaves) × Has c.add.new.self v = λ v h.
-        grind (arith, h, c.in_ok-inside.ensures.set v, c.in_ok-inside.ensures.last, has_within row v, size, home_within p v (IsOwn b), c.add_own.ensures.set v, c.add.ensures.set v) in
+    grind (arith, h, c.in_ok-inside.ensures.set v, c.in_ok-inside.ensures.last, has_within row v, size, home_within p v (IsOwn b), c.add_own.ensures.set v, c.add.ensures.set v) in
     IfOk-weaker c.frame_from.result
     (IsFraming (length p.leaves) (λ v. (v < length p.leaves) × Has c.add.new.self v))
     (IsFramingOf p b)
