@@ -1,15 +1,17 @@
 ghost use Rattle.std.specs.Prelude.{◌≡◌, ◌≢◌, ℕ, ◌+◌, ◌<◌, ◌≤◌, ◌⊎◌, ◌↔◌, Some, true, false, length, slice_get, IfOk, IsSomeAnd, IsTrue};
 ghost use Rattle.core_form.specs.Code.{Code, code_of};
 ghost use Rattle.core_form.specs.Fine.{IsWellFormed, home_of};
-ghost use Rattle.flow_relations.specs.Equation.{IsLibrary, IsPassed, IsRowLeaf, equation, is_out, opened, plain_flow, starts_unset};
+ghost use Rattle.flow_relations.specs.Equation.{IsLibrary, IsPassed, IsRowLeaf, equation, is_out, opened, starts_unset};
 ghost use Rattle.flow_relations.specs.Flow.{IsSame, clearing, row_of, seq};
+ghost use Rattle.flow_relations.specs.Framing.{AreBelow, IsFrame, Spreads, frame_size, framed, name_at, place_at, spread_of};
 ghost use Rattle.flow_bits.specs.Sets.{Has, Relates, Tells, TellsPairs};
 ghost use Rattle.flow_relations.specs.Told.{AreRowsSized, AreSized, HasRoom, IsRow, IsSideSized, told};
 
 use crate::facts::{Facts, prepend_clear};
-use crate::names::add_names;
+use crate::frame::{Frame, Framing, Places, number_row, spread_row};
+use crate::named::{frame_of, names_row, void_of};
 use crate::sides::{Side, add_cross, any, both};
-use crate::statements::{Room, facts_of, new_room, void_of};
+use crate::statements::{Room, facts_of, new_room};
 use core_form::{Formal, Home, ParamMode, Program};
 use flow_bits::{Row, Square};
 use spark_base::{BodyNo, LeafNo, NoMemory, VarNo};
@@ -29,8 +31,10 @@ pub struct BodyRow {
     pub writes: Row,
     /// Leaves that may hold their entry value at the return.
     pub keeps: Row,
-    /// Of v and w: the entry value of v may decide w at the return.
+    /// Of the numbers of v and w: the entry value of v may decide w at the return.
     pub depends: Square,
+    /// The leaves that have numbers: those that the body's code names, and its own.
+    pub frame: Frame,
 }
 
 // Whether a variable is a formal of mode out.
@@ -88,6 +92,7 @@ fn is_passed(program: &Program, body: BodyNo, leaf: LeafNo) -> bool
 // Puts before what follows that a leaf is unassigned, where it is so at the beginning of a body.
 fn open_leaf(
     program: &Program,
+    places: &Places,
     body: BodyNo,
     formals: &[Formal],
     leaf: LeafNo,
@@ -95,37 +100,47 @@ fn open_leaf(
     room: &mut Room,
 )
     requires fine { IsWellFormed program.now }
+    requires places { AreBelow (length program.now.leaves) places.now }
     requires leaf { leaf.0 < length program.now.leaves }
-    requires size { AreSized (length program.now.leaves + 1) facts.old }
-    requires room { HasRoom (length program.now.leaves + 1) room.old }
-    ensures size { AreSized (length program.now.leaves + 1) facts.new }
-    ensures room { HasRoom (length program.now.leaves + 1) room.new }
+    requires size { AreSized (places.now.void + 1) facts.old }
+    requires room { HasRoom (places.now.void + 1) room.old }
+    ensures size { AreSized (places.now.void + 1) facts.new }
+    ensures room { HasRoom (places.now.void + 1) room.new }
     ensures unset { starts_unset program.now body.0 formals.now leaf.0 ≡ true
-        → IsSame (told facts.new) (seq (length program.now.leaves) (clearing (length program.now.leaves) leaf.0) (told facts.old)) }
+        → IsSame (told facts.new) (seq places.now.void (clearing places.now.void (place_at places.now leaf.0)) (told facts.old)) }
     ensures set { starts_unset program.now body.0 formals.now leaf.0 ≡ false → facts.new ≡ facts.old }
 {
     if starts_unset(program, body, formals, leaf) {
-        prepend_clear(facts, void_of(program), leaf.0, &room.reads, &mut room.row);
+        prepend_clear(
+            facts,
+            places.void,
+            places.number(leaf),
+            &room.reads,
+            &mut room.row,
+        );
     }
 }
 
 // Puts before the code of a body that its own leaves are unassigned, from the last on.
 fn open_frame(
     program: &Program,
+    places: &Places,
     body: BodyNo,
     formals: &[Formal],
     facts: &mut Facts,
     room: &mut Room,
 )
     requires fine { IsWellFormed program.now }
-    requires size { AreSized (length program.now.leaves + 1) facts.old }
-    requires room { HasRoom (length program.now.leaves + 1) room.old }
-    ensures size { AreSized (length program.now.leaves + 1) facts.new }
-    ensures flow { (code : Code) → IsSame (told facts.old) (plain_flow program.now code)
-        → IsSame (told facts.new) (plain_flow program.now (opened (starts_unset program.now body.0 formals.now) (length program.now.leaves) 0 code)) }
+    requires places { AreBelow (length program.now.leaves) places.now }
+    requires size { AreSized (places.now.void + 1) facts.old }
+    requires room { HasRoom (places.now.void + 1) room.old }
+    ensures size { AreSized (places.now.void + 1) facts.new }
+    ensures flow { (code : Code) → IsSame (told facts.old) (framed program.now places.now code)
+        → IsSame (told facts.new) (framed program.now places.now
+        (opened (starts_unset program.now body.0 formals.now) (length program.now.leaves) 0 code)) }
 {
     for leaf in (0..void_of(program)).rev() {
-        open_leaf(program, body, formals, LeafNo(leaf), facts, room);
+        open_leaf(program, places, body, formals, LeafNo(leaf), facts, room);
     }
 }
 
@@ -166,9 +181,7 @@ fn row_leaves(alloc: Global, program: &Program, body: BodyNo) -> Result<Row, NoM
     ensures size { IfOk result (λ row. length row ≡ length program.now.leaves + 1) }
     ensures set { IfOk result (λ row. Tells row (IsRowLeaf program.now body.0)) }
 {
-    let mut row = Row::new(alloc, void_of(program) + 1)?;
-    let code = program.bodies.at(body.0 as usize).code;
-    add_names(program, code, &mut row);
+    let mut row = names_row(alloc, program, body)?;
     settle_leaves(program, body, &mut row);
     Ok(row)
 }
@@ -195,65 +208,105 @@ fn depends_into(side: &Side, into: &mut Square)
     }
 }
 
-// The row that facts tell, in some leaves.
-fn row_from(alloc: Global, facts: Facts, named: Row) -> Result<BodyRow, NoMemory>
-    requires size { AreSized (length named) facts }
-    ensures size { IfOk result (λ r. AreRowsSized (length named) r) }
-    ensures row { IfOk result (λ r. IsRow r (row_of (Has named) (told facts))) }
+// The pairs of numbers by which facts at the return depend, in some numbers.
+fn depends_from(alloc: Global, facts: &Facts, named: &Row) -> Result<Square, NoMemory>
+    requires size { AreSized (length named.now) facts.now }
+    ensures size { IfOk result (λ square. length square ≡ length named.now) }
+    ensures set { IfOk result (λ square. TellsPairs square (λ i j. ((Relates facts.now.next.dep i j ⊎ Relates facts.now.back.dep i j)
+        ⊎ ((IsTrue facts.now.next.reached × IsTrue facts.now.back.reached) × (Has facts.now.decides i × Has facts.now.writes j)))
+        × (Has named.now i × Has named.now j))) }
 {
-    let Facts {
-        mut reads,
-        mut writes,
-        decides,
-        next,
-        back,
-        leaves: _,
-    } = facts;
-    let mut keeps = Row::new(alloc, reads.size())?;
-    keeps_into(&next, &mut keeps);
-    keeps_into(&back, &mut keeps);
-    keeps.intersect_into(&named);
-    let mut depends = Square::new(alloc, reads.size())?;
-    depends_into(&next, &mut depends);
-    depends_into(&back, &mut depends);
+    let mut depends = Square::new(alloc, named.size())?;
+    depends_into(&facts.next, &mut depends);
+    depends_into(&facts.back, &mut depends);
     add_cross(
         &mut depends,
-        &decides,
-        &writes,
-        both(next.reached, back.reached),
+        &facts.decides,
+        &facts.writes,
+        both(facts.next.reached, facts.back.reached),
     );
-    depends.restrict(&named);
-    reads.intersect_into(&named);
-    writes.intersect_into(&named);
+    depends.restrict(named);
+    Ok(depends)
+}
+
+// The numbers that may be kept at the return.
+fn keeps_from(alloc: Global, facts: &Facts, size: u32) -> Result<Row, NoMemory>
+    requires size { AreSized size facts.now }
+    ensures size { IfOk result (λ row. length row ≡ size) }
+    ensures set { IfOk result (λ row. Tells row (λ i. Relates facts.now.next.kept i i ⊎ Relates facts.now.back.kept i i)) }
+{
+    let mut keeps = Row::new(alloc, size)?;
+    keeps_into(&facts.next, &mut keeps);
+    keeps_into(&facts.back, &mut keeps);
+    Ok(keeps)
+}
+
+// Those leaves of a set of numbers that are in a row.
+fn leaves_in(alloc: Global, numbers: &Row, frame: &Frame, named: &Row) -> Result<Row, NoMemory>
+    requires frame { IsFrame frame.now }
+    requires size { length numbers.now ≡ frame_size frame.now + 1 }
+    requires named { length named.now ≡ frame.now.void + 1 }
+    ensures size { IfOk result (λ row. length row ≡ length named.now) }
+    ensures set { IfOk result (λ row. Tells row (λ v. Has named.now v
+        × Spreads (name_at frame.now) (frame_size frame.now) frame.now.void (Has numbers.now) v)) }
+{
+    let mut row = spread_row(alloc, numbers, frame)?;
+    row.intersect_into(named);
+    Ok(row)
+}
+
+// The row that facts tell, in some leaves of the frame.
+fn row_from(alloc: Global, facts: &Facts, named: Row, frame: Frame) -> Result<BodyRow, NoMemory>
+    requires frame { IsFrame frame }
+    requires size { AreSized (frame_size frame + 1) facts.now }
+    requires named { length named ≡ frame.void + 1 }
+    requires inside { (v : ℕ) → Has named v → (i : ℕ) × ((i ≤ frame_size frame) × (name_at frame i ≡ v)) }
+    ensures size { IfOk result (λ r. AreRowsSized (length named) r) }
+    ensures row { IfOk result (λ r. IsRow r (row_of (Has named) (spread_of frame (told facts.now)))) }
+{
+    let keeps = leaves_in(
+        alloc,
+        &keeps_from(alloc, facts, facts.reads.size())?,
+        &frame,
+        &named,
+    )?;
+    let numbers = number_row(alloc, &named, &frame, facts.reads.size())?;
+    let depends = depends_from(alloc, facts, &numbers)?;
+    let reads = leaves_in(alloc, &facts.reads, &frame, &named)?;
+    let writes = leaves_in(alloc, &facts.writes, &frame, &named)?;
     Ok(BodyRow {
         leaves: named,
-        returns: any(next.reached, back.reached),
+        returns: any(facts.next.reached, facts.back.reached),
         reads,
         writes,
         keeps,
         depends,
+        frame,
     })
 }
 
-/// The row of a body by its code: its own leaves but the formals of modes in and in out begin unassigned.
+/// The row of a body by its code: its own leaves but the formals of modes in and in out begin unassigned. Its time and
+/// its squares go by the leaves that it names and its own; only rows have a place for each leaf of the program.
 ///
-/// A program of more than 46,336 names is want of memory, since a square has a bit for each pair.
+/// A body of more than 46,336 names is want of memory, since a square has a bit for each pair.
 pub fn row_of_body(alloc: Global, program: &Program, body: BodyNo) -> Result<BodyRow, NoMemory>
     requires fine { IsWellFormed program.now }
     requires in_range { body.0 < length program.now.bodies }
     ensures size { IfOk result (λ r. AreRowsSized (length program.now.leaves + 1) r) }
     ensures row { IfOk result (λ r. IsRow r (equation program.now body.0)) }
 {
-    let mut room = new_room(alloc, void_of(program) + 1)?;
+    let Framing { frame, places } = frame_of(alloc, program, body)?;
+    let mut room = new_room(alloc, places.void + 1)?;
     let node = program.bodies.at(body.0 as usize);
-    let mut facts = facts_of(alloc, program, node.code, &mut room)?;
+    let mut facts = facts_of(alloc, program, &places, node.code, &mut room)?;
     open_frame(
         program,
+        &places,
         body,
         node.formals.as_slice(),
         &mut facts,
         &mut room,
     );
     let named = row_leaves(alloc, program, body)?;
-    row_from(alloc, facts, named)
+    row_from(alloc, &facts, named, frame)
 }

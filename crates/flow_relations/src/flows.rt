@@ -3,12 +3,15 @@ ghost use Rattle.core_form.specs.Code.{Leaves};
 ghost use Rattle.core_form.specs.Fine.{IsWellFormed};
 ghost use Rattle.flow_relations.specs.Equation.{plain_flow, code_of_body};
 ghost use Rattle.flow_relations.specs.Flow.{IsSame};
+ghost use Rattle.flow_relations.specs.Framing.{IsFrame, frame_size, spread_of};
 ghost use Rattle.flow_relations.specs.declared.flows.Outcome.{Outcome};
 ghost use Rattle.flow_relations.specs.Told.{AreSized, AreFlowSized, told, flow_told, ends_tell, side_at};
 
 use crate::facts::Facts;
+use crate::frame::{Frame, Framing, spread_row};
+use crate::named::frame_of;
 use crate::sides::Side;
-use crate::statements::{facts_of, new_room, void_of};
+use crate::statements::{facts_of, new_room};
 use core_form::Program;
 use flow_bits::{Row, Square};
 use smallvec::SmallVec;
@@ -24,18 +27,19 @@ pub enum Outcome {
     Back,
 }
 
-/// What holds where a statement ends by one outcome. Names are the numbers of leaves, and the number of leaves
-/// stands for "not assigned".
+/// What holds where a statement ends by one outcome. Names are the numbers of the flow's frame, and their count stands
+/// for "not assigned".
 #[derive(Drop)]
 pub struct End {
     pub outcome: Outcome,
-    /// Of v and v: the leaf v may still hold its entry value. Of "not assigned" and x: x may be unassigned.
+    /// Of v and v: the leaf may still hold its entry value. Of "not assigned" and x: x may be unassigned.
     pub kept: Square,
     /// Of v and w: the entry value of v may decide w.
     pub dep: Square,
 }
 
-/// The flow of a body's code.
+/// The flow of a body's code. A leaf that has no number is not read and not written; where an outcome is reached, it is
+/// kept, and depends on itself alone.
 #[derive(Drop)]
 pub struct Flow {
     /// Leaves whose entry value may be read.
@@ -46,6 +50,8 @@ pub struct Flow {
     pub decides: Row,
     /// The outcomes that may be reached.
     pub ends: SmallVec<End, 4>,
+    /// The leaves that have numbers: those that the body's code names, and its own.
+    pub frame: Frame,
 }
 
 impl MadeWith<Global> for End {
@@ -60,24 +66,26 @@ impl MadeWith<Global> for End {
 
 /// The flow of the code of a body. Its rows have a place for each leaf and one more, for "not assigned".
 ///
-/// A program of more than 46,336 names is want of memory, since a square has a bit for each pair.
+/// A body of more than 46,336 names is want of memory, since a square has a bit for each pair.
 pub fn flow_of(alloc: Global, program: &Program, body: BodyNo) -> Result<Flow, NoMemory>
     requires fine { IsWellFormed program.now }
     requires in_range { body.0 < length program.now.bodies }
     ensures size { IfOk result (λ f. AreFlowSized (length program.now.leaves + 1) f) }
     ensures flow { IfOk result (λ f. IsSame (flow_told f) (plain_flow program.now (code_of_body program.now body.0))) }
 {
-    let mut room = new_room(alloc, void_of(program) + 1)?;
+    let Framing { frame, places } = frame_of(alloc, program, body)?;
+    let mut room = new_room(alloc, places.void + 1)?;
     let code = program.bodies.at(body.0 as usize).code;
-    let facts = facts_of(alloc, program, code, &mut room)?;
-    flow_from(alloc, facts)
+    let facts = facts_of(alloc, program, &places, code, &mut room)?;
+    flow_from(alloc, facts, frame)
 }
 
-fn flow_from(alloc: Global, facts: Facts) -> Result<Flow, NoMemory>
-    requires size { AreSized (length facts.reads) facts }
+fn flow_from(alloc: Global, facts: Facts, frame: Frame) -> Result<Flow, NoMemory>
+    requires frame { IsFrame frame }
+    requires size { AreSized (frame_size frame + 1) facts }
     requires none { (n : ℕ) → IsTrue (side_at facts (Leaves n)).reached → ⊥ }
-    ensures size { IfOk result (λ f. AreFlowSized (length facts.reads) f) }
-    ensures flow { IfOk result (λ f. IsSame (flow_told f) (told facts)) }
+    ensures size { IfOk result (λ f. AreFlowSized (frame.void + 1) f) }
+    ensures flow { IfOk result (λ f. IsSame (flow_told f) (spread_of frame (told facts))) }
 {
     let Facts {
         reads,
@@ -87,12 +95,16 @@ fn flow_from(alloc: Global, facts: Facts) -> Result<Flow, NoMemory>
         back,
         leaves: _,
     } = facts;
+    let reads = spread_row(alloc, &reads, &frame)?;
+    let writes = spread_row(alloc, &writes, &frame)?;
+    let decides = spread_row(alloc, &decides, &frame)?;
     let ends = ends_from(alloc, next, back)?;
     Ok(Flow {
         reads,
         writes,
         decides,
         ends,
+        frame,
     })
 }
 

@@ -4,7 +4,9 @@
 mod equation;
 mod facts;
 mod flows;
+mod frame;
 pub mod laws;
+mod named;
 mod names;
 mod reads;
 mod sides;
@@ -12,7 +14,10 @@ mod statements;
 
 pub use equation::{BodyRow, row_of_body};
 pub use flows::{End, Flow, Outcome, flow_of};
+pub use frame::Frame;
 
+#[cfg(test)]
+mod frame_tests;
 #[cfg(test)]
 mod loop_tests;
 #[cfg(test)]

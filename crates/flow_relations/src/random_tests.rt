@@ -1,7 +1,7 @@
 ghost use Rattle.std.specs.Prelude.{◌<◌};
 
 // Random code with loops, exits and returns against the definition unrolled.
-use crate::samples::{assign, has, list, program, read, relates};
+use crate::samples::{assign, has, list, program, read, relates_leaves};
 use crate::unrolled::{
     NAMES, NEXT, NOWHERE, Plain, RETURNS, VOID, branch, clearing, leaving, moving, one, pair,
     repeat, seq,
@@ -154,8 +154,8 @@ fn is_end(flow: &Flow, outcome: Outcome, can: bool, kept: u64, dep: u64) -> bool
     };
     for v in 0..NAMES {
         for w in 0..NAMES {
-            if relates(&end.kept, v, w) != (kept & pair(v, w) != 0)
-                || relates(&end.dep, v, w) != (dep & pair(v, w) != 0)
+            if relates_leaves(&flow.frame, &end.kept, v, w) != (kept & pair(v, w) != 0)
+                || relates_leaves(&flow.frame, &end.dep, v, w) != (dep & pair(v, w) != 0)
             {
                 return false;
             }

@@ -1,4 +1,5 @@
 // Programs with one body, built by hand.
+use crate::Frame;
 use core_form::{
     Body, BodyKind, CoreExpr, CoreStmt, Formal, Home, Leaf, Package, Part, Place, Program, Sharing,
     States, Var,
@@ -135,4 +136,22 @@ pub fn has(row: &Row, v: u32) -> bool {
 
 pub fn relates(square: &Square, v: u32, w: u32) -> bool {
     v < square.size() && w < square.size() && square.has(v, w)
+}
+
+/// The number of a leaf in a frame, or one behind all numbers.
+pub fn number(frame: &Frame, leaf: u32) -> u32 {
+    let count = frame.leaves.len() as u32;
+    if leaf == frame.void {
+        return count;
+    }
+    match frame.leaves.iter().position(|other| other.0 == leaf) {
+        Some(at) => at as u32,
+        None => u32::MAX,
+    }
+}
+
+/// Whether two leaves are related by their numbers; a leaf without a number is related to itself.
+pub fn relates_leaves(frame: &Frame, square: &Square, v: u32, w: u32) -> bool {
+    let from = number(frame, v);
+    relates(square, from, number(frame, w)) || (from == u32::MAX && v == w)
 }
