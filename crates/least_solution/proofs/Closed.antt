@@ -1,23 +1,11 @@
 -- The least solution meets the equation, where each fact of the equation comes of finitely many facts.
 use Rattle.std.proofs.Common.{◌≡◌, ℕ, zero, suc, ◌≤◌, ◌⊎◌, List, [], ◌∷◌, ◌++◌, length, refl, inl, inr, arith, sym, ap, subst, ◌∙◌}
+use Rattle.least_solution.proofs.Applied.{applied_up}
+use Rattle.least_solution.proofs.Members.{among_left, among_right}
 use Rattle.least_solution.specs.Least.{applied, least, Among, IsListed, Grows, IsFinite}
 
 abbrev pub Within : {A : Type 0} → List A → List A → Type 0
 Within {A = A} xs ys = (x : A) → Among x xs → Among x ys
-
-among_left : {A : Type 0} (x : A) (xs ys : List A) → Among x xs → Among x (xs ++ ys)
-among_left x [] ys a = absurd a
-among_left x (y ∷ xs) ys (inl e) = inl e
-among_left x (y ∷ xs) ys (inr a) = inr (among_left x xs ys a)
-
-among_right : {A : Type 0} (x : A) (xs ys : List A) → Among x ys → Among x (xs ++ ys)
-among_right x [] ys a = a
-among_right x (y ∷ xs) ys a = inr (among_right x xs ys a)
-
-among_split : {A : Type 0} (x : A) (xs ys : List A) → Among x (xs ++ ys) → Among x xs ⊎ Among x ys
-among_split x [] ys a = inr a
-among_split x (y ∷ xs) ys (inl e) = inl (inl e)
-among_split x (y ∷ xs) ys (inr a) = elim (among_split x xs ys a) [ inl l ↦ inl (inr l) | inr r ↦ inr r ]
 
 abbrev pub IsDistinct : {A : Type 0} → List A → Type 0
 IsDistinct [] = Unit {0}
@@ -42,8 +30,7 @@ distinct_most (x ∷ xs) ys d w =
 
 module _ {Fact : Type 0} (all : List Fact) (F : (Fact → Type 0) → Fact → Type 0)
     (same : (f g : Fact) → (f ≡ g) ⊎ (f ≡ g → ⊥))
-    (listed : IsListed all F) (grows : Grows F) (finite : IsFinite F)
-    (up : (n m : ℕ) → n ≤ m → (f : Fact) → applied F n f → applied F m f) where
+    (listed : IsListed all F) (grows : Grows F) (finite : IsFinite F) where
   -- each fact of the list comes of those behind it
   abbrev pub IsBuilt : List Fact → Type 0
   IsBuilt [] = Unit {0}
@@ -57,7 +44,7 @@ module _ {Fact : Type 0} (all : List Fact) (F : (Fact → Type 0) → Fact → T
   built_applied [] b f a = absurd a
   built_applied (x ∷ xs) b f (inl e) =
       subst (λ z. applied F (suc (length xs)) z) (sym e) (grows (λ g. Among g xs) (applied F (length xs)) x (built_applied xs b.1) b.0)
-  built_applied (x ∷ xs) b f (inr a) = let h : length xs ≤ suc (length xs) = omega arith in up (length xs) (suc (length xs)) h f (built_applied xs b.1 f a)
+  built_applied (x ∷ xs) b f (inr a) = let h : length xs ≤ suc (length xs) = omega arith in applied_up F grows (length xs) (suc (length xs)) h f (built_applied xs b.1 f a)
 
   amongst : (f : Fact) (xs : List Fact) → Among f xs ⊎ (Among f xs → ⊥)
   amongst f [] = inr (λ a. a)
@@ -115,7 +102,7 @@ module _ {Fact : Type 0} (all : List Fact) (F : (Fact → Type 0) → Fact → T
   applied_least n f x =
       let c = comes n f x in
       let t = tidy c.0 c.1 in
-      up (length t.0) (length all) (distinct_most t.0 all t.2 (all_listed t.0 t.1)) f (built_applied t.0 t.1 f (t.3 f c.2))
+      applied_up F grows (length t.0) (length all) (distinct_most t.0 all t.2 (all_listed t.0 t.1)) f (built_applied t.0 t.1 f (t.3 f c.2))
 
   -- the least solution meets the equation
   pub least_closed : (f : Fact) → F (least all F) f → least all F f

@@ -3,7 +3,6 @@ use Rattle.std.proofs.Common.{ℕ, Bool, List, IsTrue, subst}
 use Rattle.std.proofs.lemmas.Bool.{cases_eq}
 use Rattle.least_solution.specs.Least.{applied, least, Among, IsListed, SeesCallees, Grows, IsFinite}
 use Rattle.least_solution.specs.Rules.{Rule, AreRules, follows}
-use Rattle.least_solution.proofs.Worklist as worklist
 use Rattle.least_solution.proofs.Closed as closed
 
 module _ {Fact : Type 0} (rules : List (Rule Fact)) where
@@ -23,4 +22,3 @@ module _ (all : List ℕ) (owner : ℕ → ℕ) (calls : ℕ → ℕ → Bool) (
 
   pub rules_applied : (n f : ℕ) → applied (follows rules) n f → least all (follows rules) f
   rules_applied = closed.applied_least all (follows rules) cases_eq rules_listed (rules_grow rules) (rules_finite rules)
-      (worklist.applied_up owner all (λ b c. IsTrue (calls b c)) (follows rules) rules_listed rules_see)

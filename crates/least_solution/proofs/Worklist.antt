@@ -1,8 +1,9 @@
 -- A worklist reaches the least solution, whatever its order. Of the equation it is known only that its facts are of
 -- the list, and that it looks at the facts of callees alone and is monotone in them.
-use Rattle.std.proofs.Common.{◌≡◌, ℕ, zero, suc, ◌+◌, ◌-◌, ◌<◌, ◌≤◌, ◌⊎◌, ◌↔◌, Bool, true, false, cond, List, [], ◌∷◌, length, refl, inl, inr, arith, sym, subst, ◌∙◌}
+use Rattle.std.proofs.Common.{◌≡◌, ℕ, suc, ◌<◌, ◌≤◌, ◌⊎◌, ◌↔◌, Bool, true, false, cond, List, [], ◌∷◌, length, refl, inl, inr, arith, sym, subst, ◌∙◌}
 use Rattle.std.proofs.lemmas.Bool.{cases_Bool}
 use Rattle.least_solution.specs.Least.{applied, least, Among, IsListed, SeesCallees, Grows, tally, Passes, IsReached, IsMet}
+use Rattle.least_solution.proofs.Applied.{applied_up, applied_within}
 use Rattle.least_solution.specs.Worklist.{Worklist, IsVisit, Visits, Joins, opening}
 
 pub tally_most : {A : Type 0} (t : A → Bool) (xs : List A) → tally t xs ≤ length xs
@@ -25,34 +26,16 @@ tally_more t s h y n m (x ∷ xs) (inl e) =
     rw (tx, sx) (omega arith)
 tally_more t s h y n m (x ∷ xs) (inr a) = let k = at_least t s x (h x) in let b = tally_more t s h y n m xs a in omega arith
 
--- facts over which the equation holds have what any number of applications makes
-pub applied_within : {Fact : Type 0} (F : (Fact → Type 0) → Fact → Type 0) → Grows F → (T : Fact → Type 0) → ((f : Fact) → F T f → T f)
-    → (n : ℕ) (f : Fact) → applied F n f → T f
-applied_within F grows T h zero f x = absurd x
-applied_within F grows T h (suc n) f x = h f (grows (applied F n) T f (applied_within F grows T h n) x)
-
 module _ {Fact : Type 0} (owner : Fact → ℕ) (all : List Fact) (calls : ℕ → ℕ → Type 0) (F : (Fact → Type 0) → Fact → Type 0)
     (listed : IsListed all F) (sees : SeesCallees owner calls F) where
   pub grows : Grows F
   grows R S f h x = sees R S f (λ g _. h g) x
 
-  applied_more : (n : ℕ) (f : Fact) → applied F n f → applied F (suc n) f
-  applied_more zero f x = absurd x
-  applied_more (suc n) f x = grows (applied F n) (applied F (suc n)) f (applied_more n) x
-
-  applied_by : (k n m : ℕ) → m ≡ n + k → (f : Fact) → applied F n f → applied F m f
-  applied_by zero n m e f x = let d : n ≡ m = omega arith in subst (λ j. applied F j f) d x
-  applied_by (suc k) n m e f x = let d : m ≡ suc n + k = omega arith in applied_by k (suc n) m d f (applied_more n f x)
-
-  -- more applications make more
-  pub applied_up : (n m : ℕ) → n ≤ m → (f : Fact) → applied F n f → applied F m f
-  applied_up n m h f x = let e : m ≡ n + (m - n) = omega arith in applied_by (m - n) n m e f x
-
   pub reached_none : (t : Fact → Bool) → ((f : Fact) → t f ≡ false) → IsReached all F t
   reached_none t h f x = absurd (let e = h f in cc)
 
   pub reached_within : (t : Fact → Bool) → IsReached all F t → (f : Fact) → t f ≡ true → least all F f
-  reached_within t h f x = applied_up (tally t all) (length all) (tally_most t all) f (h f x)
+  reached_within t h f x = applied_up F grows (tally t all) (length all) (tally_most t all) f (h f x)
 
   -- one evaluation, by which something grew
   pub reached_joined : (t s : Fact → Bool) (b : ℕ) → Joins owner F t b s → IsReached all F t → (g : Fact) → t g ≡ false → s g ≡ true → IsReached all F s
@@ -61,8 +44,8 @@ module _ {Fact : Type 0} (owner : Fact → ℕ) (all : List Fact) (calls : ℕ �
       let le : tally t all ≤ tally s all = omega arith in
       let lt : suc (tally t all) ≤ tally s all = omega arith in
       elim ((j f).0 x) [
-        | inl z ↦ applied_up (tally t all) (tally s all) le f (h f z)
-        | inr p ↦ applied_up (suc (tally t all)) (tally s all) lt f (grows (Passes t) (applied F (tally t all)) f h p.1)
+        | inl z ↦ applied_up F grows (tally t all) (tally s all) le f (h f z)
+        | inr p ↦ applied_up F grows (suc (tally t all)) (tally s all) lt f (grows (Passes t) (applied F (tally t all)) f h p.1)
       ]
 
   -- behind it the equations hold of all that is not dirty: a caller of the body is
@@ -92,8 +75,8 @@ module _ {Fact : Type 0} (owner : Fact → ℕ) (all : List Fact) (calls : ℕ �
       let le : tally t all ≤ tally s all = omega arith in
       let lt : suc (tally t all) ≤ tally s all = omega arith in
       elim (j f x) [
-        | inl z ↦ applied_up (tally t all) (tally s all) le f (h f z)
-        | inr p ↦ applied_up (suc (tally t all)) (tally s all) lt f (grows (Passes r) (applied F (tally t all)) f (λ y z. h y (w y z)) p)
+        | inl z ↦ applied_up F grows (tally t all) (tally s all) le f (h f z)
+        | inr p ↦ applied_up F grows (suc (tally t all)) (tally s all) lt f (grows (Passes r) (applied F (tally t all)) f (λ y z. h y (w y z)) p)
       ]
 
   -- a body that does not call b keeps its equation where facts of b alone come in

@@ -2,7 +2,7 @@ use Rattle.std.proofs.Common.{length}
 use Rattle.least_solution.specs.Least.{Passes}
 use Rattle.least_solution.specs.Rules.{follows}
 use Rattle.least_solution.proofs.Rules.{rules_grow}
-use Rattle.least_solution.proofs.Worklist.{applied_within}
+use Rattle.least_solution.proofs.Applied.{applied_within}
 use Rattle.least_solution.proofs.least_is_least.Goals as goal
 
 pub returns : goal.returns
