@@ -22,7 +22,7 @@ row_owner sys b w h = let o = owned (λ c. c == b) (sys.owner w) h in o.1 ∙ ap
 pub owner_row : (sys : System) (b w : ℕ) → sys.owner w ≡ Some b → IsTrue (in_row sys b w)
 owner_row sys b w e = subst (λ o. IsTrue (owned_by (λ c. c == b) o)) (sym e) (eq-eqb b b refl)
 
-same_bit : (x y : Bit) → (x ≡ y) ⊎ (x ≡ y → ⊥)
+pub same_bit : (x y : Bit) → (x ≡ y) ⊎ (x ≡ y → ⊥)
 same_bit x y = elim (cases_eq x.word y.word) [
   | inl e ↦ (elim (cases_eq x.place y.place) [
     | inl d ↦ inl (λ i. record { word = e i; place = d i })
