@@ -1,5 +1,5 @@
 -- The system of an equation on facts is a system, and its least solution is that of the facts.
-use Rattle.std.proofs.Common.{◌≡◌, ◌⊎◌, inl, inr, ℕ, ◌↔◌, zero, suc, ◌+◌, ◌*◌, ◌/◌, ◌%◌, ◌<◌, ◌≤◌, Bool, true, false, ◌&&◌, cond, List, [], ◌∷◌, ◌++◌, Option, None, Some, IsTrue, length, refl, sym, ap, ◌∙◌, subst, arith}
+use Rattle.std.proofs.Common.{◌≡◌, inl, inr, ℕ, ◌↔◌, zero, suc, ◌+◌, ◌/◌, ◌%◌, ◌<◌, ◌≤◌, Bool, ◌&&◌, cond, List, [], ◌∷◌, Some, IsTrue, length, refl, sym, ap, ◌∙◌, subst, arith}
 use Rattle.std.specs.Prelude.{map, nat_lt, slice_index_or}
 use Rattle.std.proofs.lemmas.Bool.{false≢true, cases_eq, cases_lt, cases_Bool, and_parts, lt-ltb, ltb-true}
 use Rattle.std.proofs.lemmas.Option.{none-some}
@@ -16,8 +16,8 @@ use Rattle.summary_rows.proofs.Bits.{bit_behind}
 use Rattle.summary_rows.proofs.Joined.{row_within, one_row}
 use Rattle.summary_rows.proofs.Listed.{listed_stands, same_part}
 use Rattle.summary_rows.proofs.Places.{stands_below, one_part}
-use Rattle.claim_core.specs.Bits.{Bit, IsSetIn}
-use Rattle.claim_core.specs.System.{System, IsSystem, in_row, in_callee, owned_by, InLeast, IsLeast}
+use Rattle.claim_core.specs.Bits.{Bit}
+use Rattle.claim_core.specs.System.{IsSystem, owned_by, InLeast, IsLeast}
 use Rattle.claim_core.proofs.Guards.{some_one}
 use Rattle.claim_core.proofs.Systems.{same_bit, equation_grows}
 use Rattle.claim_rows.specs.Placed.{StandsAt, is_in_row, owner_below, bits_of, bits_below, at_bits, placed, words_of}

@@ -1,5 +1,6 @@
 -- The system of an equation on the facts of a layout: a fact is known where its bit is set.
-use Rattle.std.specs.Prelude.{◌≡◌, ℕ, zero, suc, ◌+◌, ◌/◌, ◌%◌, ◌<◌, nat_lt, Bool, ◌&&◌, cond, List, [], ◌∷◌, ◌++◌, Option, None, Some, IsTrue, length}
+use Rattle.std.specs.Prelude.{◌≡◌, ℕ, zero, suc, ◌+◌, ◌/◌, ◌%◌, ◌<◌, nat_lt, Bool, ◌&&◌, cond, IsTrue}
+use Rattle.std.specs.Prelude.{List, [], ◌∷◌, ◌++◌, length, Option, None, Some}
 use Rattle.flow_bits.specs.Words.{word}
 use Rattle.least_solution.specs.Least.{Among}
 use Rattle.least_solution.specs.Rules.{Rule}

@@ -1,9 +1,6 @@
 use Rattle.std.proofs.Common.{subst}
 use Rattle.least_solution.specs.Rules.{follows}
-use Rattle.least_solution.specs.Least.{Among}
-use Rattle.least_solution.proofs.Rules.{rules_grow, rules_finite}
-use Rattle.summary_rows.specs.Facts.{Fact}
-use Rattle.summary_rows.specs.Layout.{facts}
+use Rattle.least_solution.proofs.Rules.{rules_finite}
 use Rattle.claim_core.specs.Machine.{opening}
 use Rattle.claim_core.specs.System.{IsLeast}
 use Rattle.claim_core.proofs.Keeps as keeps
