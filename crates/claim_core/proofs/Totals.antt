@@ -1,5 +1,5 @@
 -- Sums over numbers below a bound, and the set bits of a word that grows.
-use Rattle.std.proofs.Common.{◌≡◌, ⊎_elim, ℕ, zero, suc, ◌+◌, ◌^◌, ◌<◌, ◌≤◌, Bool, true, false, refl, sym, ap, subst, arith, le_refl, le_of_eq, zero-le}
+use Rattle.std.proofs.Common.{◌≡◌, ⊎_elim, ℕ, zero, suc, ◌+◌, ◌^◌, ◌<◌, ◌≤◌, Bool, true, false, refl, sym, subst, arith, le_refl, le_of_eq, zero-le}
 use Rattle.std.specs.Prelude.{IsTrue}
 use Rattle.std.specs.Int.{bit_at}
 use Rattle.std.proofs.lemmas.Nat.Bits.{same_from_bits_below}
@@ -63,9 +63,3 @@ pub one_mono : (a b : Bool) → (IsTrue a → IsTrue b) → one a ≤ one b
 one_mono false b h = zero-le
 one_mono true true h = le_refl 1
 one_mono true false h = absurd (false≢true (h refl))
-
-pub one-true : (b : Bool) → IsTrue b → one b ≡ 1
-one-true b h = ap one h
-
-pub one-false : (b : Bool) → b ≡ false → one b ≡ 0
-one-false b h = ap one h
