@@ -1,0 +1,10 @@
+use Rattle.std.proofs.Common.{IsTrue}
+use Rattle.least_solution.specs.Rules.{follows}
+use Rattle.least_solution.proofs.Rules.{rules_listed, rules_see}
+use Rattle.least_solution.proofs.Worklist as worklist
+use Rattle.least_solution.proofs.worklist_is_least.Goals as goal
+
+pub returns : goal.returns
+returns c all owner calls rules are visits end v clean =
+    worklist.worklist_is_least owner all (λ b c. IsTrue (calls b c)) (follows rules) (rules_listed all owner calls rules are) (rules_see all owner calls rules are)
+    visits end v clean
