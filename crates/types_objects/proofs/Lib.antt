@@ -1,0 +1,7 @@
+pub mod CountedLeaves
+pub mod Fine
+pub mod Kept
+pub mod Moduli
+pub mod NestedFields
+pub mod Opening
+pub mod Tables
