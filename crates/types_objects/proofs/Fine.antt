@@ -106,8 +106,12 @@ made_fine types u k (decls.Protected d at name is_type operations end) table = r
 made_fine types u k (decls.Task d at name is_type end) table = record { below = tt; leaves = refl }
 made_fine types u k _ table = integer_there types table
 
+-- numbers of declarations say nothing of a table
+pub with_numbers : (t : Types) (numbers : List (ℕ × TypeNo)) → IsTable t → IsTable (record t { numbers = numbers })
+with_numbers t numbers table = record { some = table.some; firsts = table.firsts; ranked = table.ranked; counted = table.counted }
+
 with_number : (t : Types) (d : DeclNo) (n : TypeNo) → IsTable t → IsTable (numbered t d n)
-with_number t d n table = record { some = table.some; firsts = table.firsts; ranked = table.ranked; counted = table.counted }
+with_number t d n table = with_numbers t (t.numbers ++ (d.0, n) ∷ []) table
 
 one_more : (t : Types) (x : NewType) → IsTable t → Fits t.list x → IsTable (appended t x)
 one_more t x table fits = more t x table fits.below fits.leaves

@@ -1,4 +1,5 @@
 pub mod Adding
+pub mod Awaited
 pub mod Bounds
 pub mod Counts
 pub mod Firsts

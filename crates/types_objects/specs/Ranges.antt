@@ -36,11 +36,20 @@ abbrev pub range_with : TypeNo → TypeNo → Option Limits → Option Limits �
 range_with t first None whole modular = None
 range_with t first (Some own) None modular = None
 range_with t first (Some own) (Some whole) modular =
-    Some (record { subtype = t; first = first; low = own.low; high = own.high; least = whole.low; greatest = whole.high; modular = modular })
+    Some (record {
+      subtype = t;
+      first = first;
+      low = own.low;
+      high = own.high;
+      least = whole.low;
+      greatest = whole.high;
+      modular = modular;
+    })
 
 abbrev pub range_from : Types → TypeNo → TypeNo → Option Range
 range_from types t first =
-    range_with t first (limits_in (slice_get types.list t.0)) (limits_in (slice_get types.list first.0)) (greatest_in (slice_get types.list first.0))
+    range_with t first (limits_in (slice_get types.list t.0)) (limits_in (slice_get types.list first.0))
+    (greatest_in (slice_get types.list first.0))
 
 -- the bounds of a discrete type
 abbrev pub discrete_range : Types → TypeNo → Option Range

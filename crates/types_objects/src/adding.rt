@@ -157,3 +157,14 @@ pub fn add_type(
         Ok(made) => add_made(alloc, types, d, file_of(units, d), number, made),
     }
 }
+
+/// The type of a private type is that of its full declaration, which is there: so are the types of its marks from here on.
+#[tactic(auto, using(crate::proofs::Fine::with_numbers))]
+pub fn complete_type(types: &mut Types, private: DeclNo, full: TypeNo) -> Result<(), NoMemory>
+    requires table { IsTable types.old }
+    ensures ok { OnOk result (types.new ≡ numbered types.old private full) }
+    ensures err { OnErr result (types.new ≡ types.old) }
+    ensures table { IsTable types.new }
+{
+    types.numbers.push(private.0, full)
+}

@@ -2,6 +2,7 @@
 #![tactic(auto)]
 
 mod adding;
+mod awaited;
 mod bounds;
 mod counts;
 mod firsts;
@@ -14,7 +15,8 @@ mod ranges;
 mod telling;
 mod types;
 
-pub use adding::add_type;
+pub use adding::{add_type, complete_type};
+pub use awaited::awaited_by;
 pub use bounds::{Formed, modular_type, range_type, subtype_bounds};
 pub use firsts::first_of;
 pub use laws::paths_and_leaves;
