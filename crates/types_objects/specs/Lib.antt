@@ -1,0 +1,12 @@
+pub mod Adding
+pub mod Awaited
+pub mod Bounds
+pub mod Counts
+pub mod Firsts
+pub mod Made
+pub mod Marks
+pub mod Predefined
+pub mod Ranges
+pub mod Table
+pub mod Telling
+pub mod Types
