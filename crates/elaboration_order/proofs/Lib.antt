@@ -1,0 +1,9 @@
+pub mod Steps
+pub mod Needs
+pub mod Lists
+pub mod Firsts
+pub mod Reading
+pub mod Coming
+pub mod Placing
+pub mod Unseen
+pub mod Releasing
