@@ -48,7 +48,7 @@ loop_grows void a a' h =
       dep = λ o v w x. (x.0, (u x.0).dep _ v w x.1);
     }
 
-guarding_grows : (barrier : Option LeafNo) (a a' : Flow) → IsWithin a a' → IsWithin (guarding barrier a) (guarding barrier a')
+pub guarding_grows : (barrier : Option LeafNo) (a a' : Flow) → IsWithin a a' → IsWithin (guarding barrier a) (guarding barrier a')
 guarding_grows barrier a a' h = record {
   reads = λ v x. grind (arith, h.reads);
   writes = h.writes;
