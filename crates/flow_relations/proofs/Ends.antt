@@ -4,10 +4,11 @@ use Rattle.std.specs.Prelude.{All, IsTrue, slice_index_or}
 use Rattle.core_form.specs.Code.{Outcome, Next, Leaves, Returns}
 use Rattle.flow_relations.specs.declared.flows.End.{End}
 use Rattle.flow_relations.specs.declared.flows.Outcome.{Outcome as EndOutcome}
-use Rattle.flow_relations.specs.declared.sides.Side.{Side}
+use Rattle.flow_facts.specs.declared.sides.Side.{Side}
 use Rattle.flow_bits.specs.Sets.{Relates}
-use Rattle.flow_relations.specs.Told.{AreEndsSized, IsSideSized, SomeEnd, ends_tell, no_side, outcome_of, side_of}
-use Rattle.flow_relations.proofs.Outcomes.{each_sized, reached_dep, reached_kept}
+use Rattle.flow_facts.specs.Told.{IsSideSized, no_side, side_of}
+use Rattle.flow_relations.specs.Told.{AreEndsSized, SomeEnd, ends_tell, outcome_of}
+use Rattle.flow_facts.proofs.Outcomes.{each_sized, reached_dep, reached_kept}
 use Rattle.std.proofs.lemmas.List.Elements.{All-append}
 
 some_parts : (P : End → Type 0) (xs ys : List End) → SomeEnd P (xs ++ ys) ↔ (SomeEnd P xs ⊎ SomeEnd P ys)

@@ -4,10 +4,10 @@ use Rattle.std.proofs.lemmas.Bool.{cases_lt}
 use Rattle.spark_base.specs.declared.numbers.LeafNo.{LeafNo}
 use Rattle.core_form.specs.Code.{Expr, Exprs, Spot, Outcome, Next, Code, Constant, Load, Operation, Choice, Listed, Checked, Nothing, And, At, Skip, Then, Assign, Clear, Branch, Repeat, Exit, Called, Guard, Delay, ReadClock, Stop}
 use Rattle.flow_relations.specs.Equation.{names_of, no_calls}
-use Rattle.flow_relations.specs.Flow.{Flow, IsBarrier, IsSame, branch, changing, clearing, flow, guarding, leaving, loop, moving, nowhere, reading, reads_of, reads_of_all, reads_of_spot, seq, setting, unrolling}
+use Rattle.flow_facts.specs.Flow.{Flow, IsBarrier, IsSame, branch, changing, clearing, flow, guarding, leaving, loop, moving, nowhere, reading, reads_of, reads_of_all, reads_of_spot, seq, setting, unrolling}
 use Rattle.flow_relations.specs.Framing.{IsInside, IsOutside, Spreads, SpreadsAll, SpreadsPairs, spread}
 use Rattle.flow_relations.specs.Renamed.{renamed, renamed_all, renamed_barrier, renamed_code, renamed_spot}
-use Rattle.flow_relations.proofs.Same.{branch_same, changing_same, loop_same, moving_same, same_through, seq_same}
+use Rattle.flow_facts.proofs.Same.{branch_same, changing_same, loop_same, moving_same, same_through, seq_same}
 use Rattle.flow_relations.proofs.Spread.{IsBounded, branch_spread, loop_spread, nowhere_spread, seq_spread}
 
 -- What is written or related is a number

@@ -14,11 +14,11 @@ use Rattle.core_form.specs.Fine.{home_of}
 use Rattle.flow_relations.specs.declared.frame.Frame.{Frame}
 use Rattle.flow_relations.specs.declared.frame.Framing.{Framing}
 use Rattle.flow_relations.specs.Equation.{IsPassed, IsRowLeaf, clock_among, code_at_body, is_unset, is_unset_leaf, is_unset_var, names_of, no_calls, opened, plain_flow, starts_unset}
-use Rattle.flow_relations.specs.Flow.{Flow, IsSame, flow}
+use Rattle.flow_facts.specs.Flow.{Flow, IsSame, flow}
 use Rattle.flow_relations.specs.Framing.{IsFrame, IsFrameLeaf, IsFraming, IsFramingOf, IsOwn, Spreads, SpreadsAll, frame_size, framed, name_at, place_at, spread, spread_of}
 use Rattle.flow_relations.specs.Renamed.{renamed_code}
 use Rattle.flow_relations.proofs.Framed.{IsNaming, code_spread}
-use Rattle.flow_relations.proofs.Same.{same_through}
+use Rattle.flow_facts.proofs.Same.{same_through}
 
 -- Names
 

@@ -10,7 +10,7 @@ use Rattle.flow_relations.specs.declared.frame.Frame.{Frame}
 use Rattle.flow_relations.specs.declared.frame.Framing.{Framing}
 use Rattle.flow_relations.specs.declared.frame.Places.{Places}
 use Rattle.flow_relations.specs.Equation.{clock_among, code_of_body, names_of, no_calls}
-use Rattle.flow_relations.specs.Flow.{Flow, flow}
+use Rattle.flow_facts.specs.Flow.{Flow, flow}
 use Rattle.flow_relations.specs.Renamed.{renamed_code}
 
 -- numbers 0 to n - 1 have names below `void`, and n is "not assigned"

@@ -2,15 +2,16 @@ ghost use Rattle.std.specs.Prelude.{◌≡◌, ◌≢◌, ℕ, ◌+◌, ◌<◌,
 ghost use Rattle.core_form.specs.Code.{Code, code_of};
 ghost use Rattle.core_form.specs.Fine.{IsWellFormed, home_of};
 ghost use Rattle.flow_relations.specs.Equation.{IsLibrary, IsPassed, IsRowLeaf, equation, is_out, opened, starts_unset};
-ghost use Rattle.flow_relations.specs.Flow.{IsSame, clearing, row_of, seq};
+ghost use Rattle.flow_facts.specs.Flow.{IsSame, clearing, row_of, seq};
 ghost use Rattle.flow_relations.specs.Framing.{AreBelow, IsFrame, Spreads, frame_size, framed, name_at, place_at, spread_of};
 ghost use Rattle.flow_bits.specs.Sets.{Has, Relates, Tells, TellsPairs};
-ghost use Rattle.flow_relations.specs.Told.{AreRowsSized, AreSized, HasRoom, IsRow, IsSideSized, told};
+ghost use Rattle.flow_facts.specs.Told.{AreSized, IsSideSized, told};
+ghost use Rattle.flow_relations.specs.Told.{AreRowsSized, HasRoom, IsRow};
 
-use crate::facts::{Facts, prepend_clear};
+use flow_facts::{Facts, prepend_clear};
 use crate::frame::{Frame, Framing, Places, number_row, spread_row};
 use crate::named::{frame_of, names_row, void_of};
-use crate::sides::{Side, add_cross, any, both};
+use flow_facts::{Side, add_cross, any, both};
 use crate::statements::{Room, facts_of, new_room};
 use core_form::{Formal, Home, ParamMode, Program};
 use flow_bits::{Row, Square};

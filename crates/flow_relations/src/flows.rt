@@ -2,15 +2,16 @@ ghost use Rattle.std.specs.Prelude.{◌≡◌, ℕ, ◌+◌, ◌<◌, ◌++◌, 
 ghost use Rattle.core_form.specs.Code.{Leaves};
 ghost use Rattle.core_form.specs.Fine.{IsWellFormed};
 ghost use Rattle.flow_relations.specs.Equation.{plain_flow, code_of_body};
-ghost use Rattle.flow_relations.specs.Flow.{IsSame};
+ghost use Rattle.flow_facts.specs.Flow.{IsSame};
 ghost use Rattle.flow_relations.specs.Framing.{IsFrame, frame_size, spread_of};
 ghost use Rattle.flow_relations.specs.declared.flows.Outcome.{Outcome};
-ghost use Rattle.flow_relations.specs.Told.{AreSized, AreFlowSized, told, flow_told, ends_tell, side_at};
+ghost use Rattle.flow_facts.specs.Told.{AreSized, told, side_at};
+ghost use Rattle.flow_relations.specs.Told.{AreFlowSized, flow_told, ends_tell};
 
-use crate::facts::Facts;
+use flow_facts::Facts;
 use crate::frame::{Frame, Framing, spread_row};
 use crate::named::frame_of;
-use crate::sides::Side;
+use flow_facts::Side;
 use crate::statements::{facts_of, new_room};
 use core_form::Program;
 use flow_bits::{Row, Square};

@@ -2,14 +2,12 @@
 #![tactic(auto)]
 
 mod equation;
-mod facts;
 mod flows;
 mod frame;
 pub mod laws;
 mod named;
 mod names;
 mod reads;
-mod sides;
 mod statements;
 
 pub use equation::{BodyRow, row_of_body};

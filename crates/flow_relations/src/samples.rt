@@ -140,12 +140,13 @@ pub fn relates(square: &Square, v: u32, w: u32) -> bool {
 
 /// The number of a leaf in a frame, or one behind all numbers.
 pub fn number(frame: &Frame, leaf: u32) -> u32 {
-    let count = frame.leaves.len() as u32;
-    if leaf == frame.void {
-        return count;
-    }
-    match frame.leaves.iter().position(|other| other.0 == leaf) {
-        Some(at) => at as u32,
+    let place = if leaf == frame.void {
+        Some(frame.leaves.len())
+    } else {
+        frame.leaves.iter().position(|other| other.0 == leaf)
+    };
+    match place {
+        Some(at) => u32::try_from(at).unwrap_or(u32::MAX),
         None => u32::MAX,
     }
 }

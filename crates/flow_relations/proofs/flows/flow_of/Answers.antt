@@ -2,12 +2,13 @@ use Rattle.std.proofs.Common.{arith}
 use Rattle.std.proofs.lemmas.Result.{IfOk-weaker}
 use Rattle.core_form.specs.Code.{Leaves, code_of}
 use Rattle.flow_relations.specs.Equation.{plain_flow}
-use Rattle.flow_relations.specs.Flow.{IsSame}
+use Rattle.flow_facts.specs.Flow.{IsSame}
 use Rattle.flow_relations.specs.Framing.{spread_of}
-use Rattle.flow_relations.specs.Told.{told, flow_told}
+use Rattle.flow_facts.specs.Told.{told}
+use Rattle.flow_relations.specs.Told.{flow_told}
 use Rattle.flow_relations.proofs.Framings.{body_spread}
 use Rattle.flow_relations.proofs.Leaving.{leaves_within}
-use Rattle.flow_relations.proofs.Same.{same_through}
+use Rattle.flow_facts.proofs.Same.{same_through}
 use Rattle.flow_relations.proofs.flows.flow_of.Goals as goal
 
 pub flow_from-requires-clause-none : goal.flow_from-requires-clause-none

@@ -4,7 +4,7 @@ use Rattle.flow_bits.specs.Sets.{Has}
 use Rattle.flow_relations.specs.Framing.{IsFrameLeaf, IsFraming, IsFramingOf, IsOwn}
 use Rattle.flow_relations.proofs.Framings.{framing_in}
 use Rattle.flow_relations.proofs.Frames.{home_within}
-use Rattle.flow_relations.proofs.Within.{has_within}
+use Rattle.flow_facts.proofs.Within.{has_within}
 use Rattle.flow_relations.proofs.named.frame_of.Goals as goal
 
 pub returns : goal.returns

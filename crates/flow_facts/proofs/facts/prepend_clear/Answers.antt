@@ -1,0 +1,14 @@
+use Rattle.std.proofs.Common.{arith}
+use Rattle.flow_facts.specs.Flow.{clearing}
+use Rattle.flow_bits.specs.Sets.{Has}
+use Rattle.flow_facts.proofs.Within.{has_within}
+use Rattle.flow_facts.proofs.Outcomes.{clearing_goes, prepend_same}
+use Rattle.flow_facts.proofs.facts.prepend_clear.Goals as goal
+
+pub returns-clause-flow : goal.returns-clause-flow
+returns-clause-flow c =
+    let old = c.args.rest.now in
+    prepend_same c.args.void (clearing c.args.void c.args.leaf) (clearing_goes c.args.void c.args.leaf) old _ _ _ _ _ _ c.step_all.ensures.behind
+    (λ v. grind (arith, c.step_all.ensures.reads, c.requires.size.reads, has_within old.reads v, c.remove.ensures.set v, c.remove-2.ensures.set v))
+    (λ v. grind (arith, c.step_all.ensures.writes, c.add.ensures.set v))
+    (Has c.step_all.new.rest.decides) c.step_all.ensures.decides c.clear_decides.ensures.set
