@@ -1,10 +1,11 @@
-use Rattle.std.proofs.Common.{◌≡◌, Option, Some, None, sym, subst}
+use Rattle.std.proofs.Common.{◌≡◌, Option, Some, None, refl, sym, subst}
 use Rattle.std.specs.Prelude.{IfSome}
 use Rattle.core_form.specs.Fine.{IsFineBody, IsFineContract}
 use Rattle.core_form.specs.declared.contract.Contract.{Contract}
 use Rattle.core_form.specs.declared.program.Program.{Program}
 use Rattle.run_laws.proofs.Names.{All_got}
-use Rattle.flow_driver.specs.Report.{checked_contract}
+use Rattle.flow_driver.specs.GlobalCheck.{global_messages}
+use Rattle.flow_driver.specs.Report.{AreBodyMessages, checked_contract}
 use Rattle.flow_driver.proofs.report.append_body_messages.Goals as goal
 
 -- the contract by which a body is checked is one of its two
@@ -21,3 +22,16 @@ append_global_messages-requires-clause-contract c =
     let fine : IsFineBody p body = All_got (IsFineBody p) p.bodies c.args.number.0 body c.requires.fine.bodies c.requires.body in
     let is : Some c.in-Some.contract.now ≡ checked_contract body = c.in-Some.ensures in
     (fine_checked p body.inner body.outer fine.inner fine.outer c.in-Some.contract.now is).globals
+
+pub returns-in_ok-append_global_messages-in-Some : goal.returns-in_ok-append_global_messages-in-Some
+returns-in_ok-append_global_messages-in-Some c =
+    let p = c.args.program.now in
+    let body = c.args.body.now in
+    let found = global_messages p c.in_ok-row-in-Some.row body c.in-Some.contract.now in
+    let checked : AreBodyMessages p c.args.number.0 body (Some c.in-Some.contract.now) found = record { row = c.in_ok-row-in-Some.row; is_row = c.in_ok-row-in-Some.ensures.row; list_is = refl } in
+    let is : Some c.in-Some.contract.now ≡ checked_contract body = c.in-Some.ensures in
+    record {
+      found = found;
+      are_found = subst (λ o. AreBodyMessages p c.args.number.0 body o found) is checked;
+      grew = c.in_ok-append_global_messages-in-Some.ensures;
+    }
