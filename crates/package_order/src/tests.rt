@@ -166,6 +166,57 @@ fn plain_order(alloc: Global, packages: &[Package]) -> Result<Items<Item>, NoMem
     Ok(done)
 }
 
+/// The numbers, each in the place that it has in an order of the packages.
+fn moved(alloc: Global, numbers: &[usize], places: &[usize]) -> Result<Items<usize>, NoMemory> {
+    let mut list = Items::new(alloc);
+    for number in numbers {
+        if *number < places.len() {
+            list.push(places[*number])?;
+        }
+    }
+    Ok(list)
+}
+
+/// The packages in another order, `places` having the new place of each.
+fn rearranged(alloc: Global, rows: &[Row], places: &[usize]) -> Result<Vec<Package>, NoMemory> {
+    let mut packages = Vec::new(alloc);
+    for place in 0..rows.len() {
+        for ((withs, body_withs), at) in rows.iter().zip(places.iter()) {
+            if *at == place {
+                packages.push(Package {
+                    withs: moved(alloc, withs, places)?,
+                    body_withs: match body_withs {
+                        Some(more) => Some(moved(alloc, more, places)?),
+                        None => None,
+                    },
+                })?;
+            }
+        }
+    }
+    Ok(packages)
+}
+
+/// Four packages in all orders of their specs: the order of elaboration is that of the definition in each.
+#[test]
+fn four_packages_in_all_orders(rt: HostRuntime) -> Result<(), Fail> {
+    let alloc = rt.alloc();
+    let rows: [Row; 4] = [
+        (&[], Some(&[1, 2])),
+        (&[0], Some(&[3])),
+        (&[], Some(&[1])),
+        (&[2], None),
+    ];
+    for number in 0..256usize {
+        let places = [number % 4, number / 4 % 4, number / 16 % 4, number / 64];
+        let packages = rearranged(alloc, &rows, &places)?;
+        let is_order = (0..4usize).all(|place| places.iter().any(|at| *at == place));
+        if is_order {
+            assert!(rt; is_plain(alloc, packages.as_slice())?);
+        }
+    }
+    Ok(())
+}
+
 fn next_random(seed: &mut u32) -> usize {
     *seed = seed.wrapping_mul(1_664_525).wrapping_add(1_013_904_223);
     (*seed >> 16) as usize
