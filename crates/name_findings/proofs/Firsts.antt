@@ -33,13 +33,13 @@ lex_later a b r l = lex_other a b r (λ e. omega (arith, l, e)) ∙ le-ltb a b (
 lex_none : (a b c : ℕ) (r s t : Bool) → (r ≡ false → s ≡ false → t ≡ false) → lex a b r ≡ false → lex b c s ≡ false → lex a c t ≡ false
 lex_none a b c r s t h p q = ⊎_elim
     (λ x. ⊎_elim
-        (λ y. lex_same a c t (x.0 ∙ y.0) ∙ h x.1 y.1)
-        (λ l. let e = x.0 in lex_later a c t (omega (arith, l, e)))
-        (lex_no b c s q))
+    (λ y. lex_same a c t (x.0 ∙ y.0) ∙ h x.1 y.1)
+    (λ l. let e = x.0 in lex_later a c t (omega (arith, l, e)))
+    (lex_no b c s q))
     (λ k. ⊎_elim
-        (λ y. let e = y.0 in lex_later a c t (omega (arith, k, e)))
-        (λ l. lex_later a c t (omega (arith, k, l)))
-        (lex_no b c s q))
+    (λ y. let e = y.0 in lex_later a c t (omega (arith, k, e)))
+    (λ l. lex_later a c t (omega (arith, k, l)))
+    (lex_no b c s q))
     (lex_no a b r p)
 
 lex_asym : (a b : ℕ) (r s : Bool) → (r ≡ true → s ≡ false) → lex a b r ≡ true → lex b a s ≡ false
@@ -64,7 +64,7 @@ before_asym a b p =
 before_none : (a b c : Fault) → is_before a b ≡ false → is_before b c ≡ false → is_before a c ≡ false
 before_none a b c p q =
     lex_none a.at.line b.at.line c.at.line _ _ _
-        (λ r s. lex_none a.at.col b.at.col c.at.col _ _ _ (λ x y. lt_none (rank a.code) (rank b.code) (rank c.code) x y) r s) p q
+    (λ r s. lex_none a.at.col b.at.col c.at.col _ _ _ (λ x y. lt_none (rank a.code) (rank b.code) (rank c.code) x y) r s) p q
 
 before_trans : (a b c : Fault) → is_before a b ≡ true → is_before b c ≡ true → is_before a c ≡ true
 before_trans a b c p q = ⊎_elim (λ t. t) (λ f. absurd (both_ways (is_before a b) (before_none a c b f (before_asym b c q)) p)) (cases_Bool (is_before a c))
@@ -81,17 +81,17 @@ record Least (t : Told) (fs : List Finding) (f : Fault) : Type 0 where
 joined : (f h g : Fault) (rest : List Fault) → IsFirst g ((if is_before h f then h else f) ∷ rest) → IsFirst g (f ∷ (h ∷ rest))
 joined f h g rest i = ⊎_elim
     (λ y. let j : IsFirst g (h ∷ rest) = subst (λ e. IsFirst g (e ∷ rest)) (cond-true (is_before h f) h f y) i in
-        let n : is_before h g ≡ false = All-head (NotBefore g) h rest j.least in
-        record {
-          among = inr j.among;
-          least = All-cons (NotBefore g) f (h ∷ rest) (⊎_elim (λ m. absurd (both_ways (is_before h g) n (before_trans h f g y m))) (λ m. m) (cases_Bool (is_before f g))) j.least;
-        })
+    let n : is_before h g ≡ false = All-head (NotBefore g) h rest j.least in
+    record {
+      among = inr j.among;
+      least = All-cons (NotBefore g) f (h ∷ rest) (⊎_elim (λ m. absurd (both_ways (is_before h g) n (before_trans h f g y m))) (λ m. m) (cases_Bool (is_before f g))) j.least;
+    })
     (λ y. let j : IsFirst g (f ∷ rest) = subst (λ e. IsFirst g (e ∷ rest)) (cond-false (is_before h f) h f y) i in
-        let n : is_before f g ≡ false = All-head (NotBefore g) f rest j.least in
-        record {
-          among = ⊎_elim (λ e. inl e) (λ m. inr (inr m)) j.among;
-          least = All-cons (NotBefore g) f (h ∷ rest) n (All-cons (NotBefore g) h rest (before_none h f g y n) (All-tail (NotBefore g) f rest j.least));
-        })
+    let n : is_before f g ≡ false = All-head (NotBefore g) f rest j.least in
+    record {
+      among = ⊎_elim (λ e. inl e) (λ m. inr (inr m)) j.among;
+      least = All-cons (NotBefore g) f (h ∷ rest) n (All-cons (NotBefore g) h rest (before_none h f g y n) (All-tail (NotBefore g) f rest j.least));
+    })
     (cases_Bool (is_before h f))
 
 least_from : (fs : List Finding) (t : Told) (f : Fault) → t.first ≡ Some f → Least t fs f

@@ -130,7 +130,9 @@ impl Findings {
         ensures types { result.1.items ≡ self.type_of }
     {
         let Findings {
-            decl_of, type_of, ..
+            decl_of,
+            type_of,
+            ..
         } = self;
         (decl_of, type_of)
     }

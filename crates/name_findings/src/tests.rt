@@ -11,10 +11,22 @@ fn at(line: u32, col: u32) -> Pos {
 #[test]
 fn the_first_by_place_and_code_counts(rt: HostRuntime) -> Result<(), Fail> {
     let rows = [
-        ([(2, 5, Code::Y04), (2, 4, Code::Y09), (3, 1, Code::N01)], (2, 4, Code::Y09)),
-        ([(2, 4, Code::Y04), (2, 4, Code::N08), (2, 4, Code::Y01)], (2, 4, Code::N08)),
-        ([(9, 1, Code::N12), (8, 80, Code::Y09), (9, 1, Code::N01)], (8, 80, Code::Y09)),
-        ([(1, 1, Code::Y01), (1, 1, Code::N12), (1, 1, Code::N10)], (1, 1, Code::N10)),
+        (
+            [(2, 5, Code::Y04), (2, 4, Code::Y09), (3, 1, Code::N01)],
+            (2, 4, Code::Y09),
+        ),
+        (
+            [(2, 4, Code::Y04), (2, 4, Code::N08), (2, 4, Code::Y01)],
+            (2, 4, Code::N08),
+        ),
+        (
+            [(9, 1, Code::N12), (8, 80, Code::Y09), (9, 1, Code::N01)],
+            (8, 80, Code::Y09),
+        ),
+        (
+            [(1, 1, Code::Y01), (1, 1, Code::N12), (1, 1, Code::N10)],
+            (1, 1, Code::N10),
+        ),
     ];
     for (faults, (line, col, code)) in rows {
         let mut found = Findings::new(rt.alloc(), 0)?;
