@@ -8,4 +8,4 @@ pub use facts::{
     Facts, back_facts, branch_with, leave_facts, loop_with, no_facts, prepend_change,
     prepend_clear, prepend_move, skip_facts, then_with,
 };
-pub use sides::{Side, add_cross, any, both};
+pub use sides::{Side, add_cross, any, both, no_side};

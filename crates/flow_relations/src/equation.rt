@@ -8,13 +8,12 @@ ghost use Rattle.flow_bits.specs.Sets.{Has, Relates, Tells, TellsPairs};
 ghost use Rattle.flow_facts.specs.Told.{AreSized, IsSideSized, told};
 ghost use Rattle.flow_relations.specs.Told.{AreRowsSized, HasRoom, IsRow};
 
-use flow_facts::{Facts, prepend_clear};
 use crate::frame::{Frame, Framing, Places, number_row, spread_row};
 use crate::named::{frame_of, names_row, void_of};
-use flow_facts::{Side, add_cross, any, both};
 use crate::statements::{Room, facts_of, new_room};
 use core_form::{Formal, Home, ParamMode, Program};
 use flow_bits::{Row, Square};
+use flow_facts::{Facts, Side, add_cross, any, both, prepend_clear};
 use spark_base::{BodyNo, LeafNo, NoMemory, VarNo};
 use std::alloc::Global;
 

@@ -8,13 +8,12 @@ ghost use Rattle.flow_relations.specs.declared.flows.Outcome.{Outcome};
 ghost use Rattle.flow_facts.specs.Told.{AreSized, told, side_at};
 ghost use Rattle.flow_relations.specs.Told.{AreFlowSized, flow_told, ends_tell};
 
-use flow_facts::Facts;
 use crate::frame::{Frame, Framing, spread_row};
 use crate::named::frame_of;
-use flow_facts::Side;
 use crate::statements::{facts_of, new_room};
 use core_form::Program;
 use flow_bits::{Row, Square};
+use flow_facts::{Facts, Side};
 use smallvec::SmallVec;
 use spark_base::{BodyNo, NoMemory};
 use std::alloc::Global;

@@ -1,0 +1,5 @@
+pub mod Alone
+pub mod Dropped
+pub mod Grown
+pub mod Named
+pub mod Ranges
