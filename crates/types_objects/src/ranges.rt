@@ -1,4 +1,4 @@
-//! The bounds of discrete types and subtypes, and what fits what.
+//! The bounds of discrete types and subtypes.
 ghost use Rattle.std.specs.Prelude.{◌≡◌, ◌-◌, ◌^◌, ◌<◌, ◌≤◌, slice_get};
 ghost use Rattle.types_objects.specs.Ranges as spec;
 ghost use Rattle.types_objects.specs.Table.{IsTable};
@@ -16,15 +16,8 @@ pub struct Limits {
     pub high: i128,
 }
 
-/// The type of a value: a whole number that fits each integer type, or one of the table.
-#[derive(Clone, Copy, Debug, PartialEq, Eq)]
-pub enum ValueType {
-    AnyInteger,
-    Of(TypeNo),
-}
-
 /// The least and the greatest value of a type, if its form is discrete.
-fn limits_at(types: &Types, t: TypeNo) -> Option<Limits>
+pub fn limits_at(types: &Types, t: TypeNo) -> Option<Limits>
     requires table { IsTable types.now }
     ensures { result ≡ spec.limits_in (slice_get types.now.list t.0) }
 {
@@ -46,7 +39,7 @@ fn limits_at(types: &Types, t: TypeNo) -> Option<Limits>
 }
 
 /// The greatest value of a type, if it is modular.
-fn greatest_at(types: &Types, t: TypeNo) -> Option<u64>
+pub fn greatest_at(types: &Types, t: TypeNo) -> Option<u64>
     requires table { IsTable types.now }
     ensures { result ≡ spec.greatest_in (slice_get types.now.list t.0) }
 {
@@ -56,7 +49,7 @@ fn greatest_at(types: &Types, t: TypeNo) -> Option<u64>
     }
 }
 
-fn range_with(
+pub fn range_with(
     subtype: TypeNo,
     first: TypeNo,
     own: Option<Limits>,
@@ -78,7 +71,7 @@ fn range_with(
     })
 }
 
-fn discrete_range(types: &Types, t: TypeNo) -> Option<Range>
+pub fn discrete_range(types: &Types, t: TypeNo) -> Option<Range>
     requires table { IsTable types.now }
     ensures { result ≡ spec.discrete_range types.now t }
 {
@@ -113,22 +106,6 @@ pub fn is_integer(types: &Types, t: TypeNo) -> bool
             TypeForm::Signed { .. } => true,
             TypeForm::Modular(_) => true,
             _ => false,
-        },
-    }
-}
-
-/// Whether a value of the one type can stand where one of the other is wanted.
-pub fn fits(types: &Types, to: ValueType, of: ValueType) -> bool
-    ensures { result ≡ spec.fits types.now to of }
-{
-    match to {
-        ValueType::AnyInteger => match of {
-            ValueType::AnyInteger => true,
-            ValueType::Of(t) => is_integer(types, t),
-        },
-        ValueType::Of(t) => match of {
-            ValueType::AnyInteger => is_integer(types, t),
-            ValueType::Of(u) => first_of(types, t).0 == first_of(types, u).0,
         },
     }
 }
