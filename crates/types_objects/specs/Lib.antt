@@ -2,6 +2,7 @@ pub mod Adding
 pub mod Awaited
 pub mod Bounds
 pub mod Counts
+pub mod Early
 pub mod Firsts
 pub mod Made
 pub mod Marks

@@ -102,7 +102,7 @@ fn bounded(first: TypeNo, name: Name, d: DeclNo, formed: Formed) -> Made
 }
 
 /// What a subtype indication makes: without a range it is its mark.
-fn indicated(
+pub fn indicated(
     alloc: Global,
     types: &Types,
     units: &Units,
@@ -153,7 +153,7 @@ fn widest(range: Range) -> Range
 }
 
 /// The index `L .. H`, of the type of its bounds.
-fn index_between(
+pub fn index_between(
     alloc: Global,
     units: &Units,
     known: &Known,
@@ -181,7 +181,7 @@ fn subtype_in(types: &Types, range: Option<Range>) -> TypeNo
 }
 
 /// The range that a Range attribute gives.
-fn range_in(
+pub fn range_in(
     alloc: Global,
     units: &Units,
     known: &Known,

@@ -17,7 +17,7 @@ pub struct Limits {
 }
 
 /// The least and the greatest value of a type, if its form is discrete.
-fn limits_at(types: &Types, t: TypeNo) -> Option<Limits>
+pub fn limits_at(types: &Types, t: TypeNo) -> Option<Limits>
     requires table { IsTable types.now }
     ensures { result ≡ spec.limits_in (slice_get types.now.list t.0) }
 {
@@ -39,7 +39,7 @@ fn limits_at(types: &Types, t: TypeNo) -> Option<Limits>
 }
 
 /// The greatest value of a type, if it is modular.
-fn greatest_at(types: &Types, t: TypeNo) -> Option<u64>
+pub fn greatest_at(types: &Types, t: TypeNo) -> Option<u64>
     requires table { IsTable types.now }
     ensures { result ≡ spec.greatest_in (slice_get types.now.list t.0) }
 {
@@ -49,7 +49,7 @@ fn greatest_at(types: &Types, t: TypeNo) -> Option<u64>
     }
 }
 
-fn range_with(
+pub fn range_with(
     subtype: TypeNo,
     first: TypeNo,
     own: Option<Limits>,
@@ -71,7 +71,7 @@ fn range_with(
     })
 }
 
-fn discrete_range(types: &Types, t: TypeNo) -> Option<Range>
+pub fn discrete_range(types: &Types, t: TypeNo) -> Option<Range>
     requires table { IsTable types.now }
     ensures { result ≡ spec.discrete_range types.now t }
 {

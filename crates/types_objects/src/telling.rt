@@ -11,7 +11,7 @@ use ada_tree::Units;
 use spark_base::{DeclNo, NoMemory, TypeNo};
 use static_eval::{Known, Range};
 
-fn tell_range(known: &mut Known, d: DeclNo, range: Option<Range>) -> Result<(), NoMemory>
+pub fn tell_range(known: &mut Known, d: DeclNo, range: Option<Range>) -> Result<(), NoMemory>
     ensures { OnOk result (known.new ≡ spec.with_range known.old d range) }
 {
     match range {

@@ -2,10 +2,10 @@
 //! tables of sources with the types that come of them.
 #![tactic(auto)]
 
-mod shown;
+mod text;
 mod walk;
 
-pub use shown::shown;
+pub use text::shown;
 pub use walk::{Walk, walked};
 
 #[cfg(test)]

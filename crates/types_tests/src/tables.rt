@@ -1,7 +1,7 @@
 // Sources, and the types that come of them: each with its number, its form, its first type if that is another, and its leaves if
 // they are not one; what waits, and what is refused. A sign behind a component stands for a preset.
 
-pub const DECLARED: [(&str, &str); 8] = [
+pub const DECLARED: [(&str, &str); 9] = [
     (
         "package P is
    type T is range -100 .. 1000;
@@ -243,6 +243,30 @@ end P;
 10 X 1 .. 0, first 6
 Y05 5:24
 Y05 8:20
+",
+    ),
+    (
+        "package P is
+   type T is private;
+   type Arr is array (2 .. 4) of T;
+   subtype Same is Arr;
+   type More is array (Same'Range) of T;
+   subtype S is Integer range Arr'First .. More'Last;
+   N : constant := Arr'Length;
+   type R is range 1 .. N;
+   type Bits is array (Arr'First .. 3) of Boolean;
+private
+   type T is range 0 .. Arr'Last;
+end P;
+",
+        "6 S 2 .. 4, first 1
+7 R 1 .. 3
+8 Bits 2 .. 3, first 1
+9 Bits array 8 of 0
+10 T 0 .. 4
+11 Arr 2 .. 4, first 1
+12 Arr array 11 of 10
+13 More array 11 of 10
 ",
     ),
 ];

@@ -1,6 +1,6 @@
 // What sources declare, and what of it is refused.
 use crate::refusals::{HEAD, REFUSED};
-use crate::shown::shown;
+use crate::text::shown;
 use crate::tables::DECLARED;
 use crate::walk::{Walk, walked};
 use ada_lexer::lex;

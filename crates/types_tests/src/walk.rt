@@ -9,7 +9,7 @@ use spark_messages::{Code, PhaseFault};
 use static_eval::{Known, value_of};
 use std::alloc::Global;
 use std::mem;
-use types_objects::{Types, add_type, awaited_by, complete_type, tell_type};
+use types_objects::{Types, add_type, awaited_by, complete_type, tell_early, tell_type};
 
 /// What the declarations so far made.
 #[derive(Drop)]
@@ -197,6 +197,7 @@ fn add_or_wait(alloc: Global, units: &Units, walk: &mut Walk, d: DeclNo) -> Resu
     match awaited_by(&walk.types, units, &walk.known, d) {
         None => add(alloc, units, walk, d),
         Some(_) => {
+            tell_early(alloc, &mut walk.known, &walk.types, units, d)?;
             walk.waiting.push(d)?;
             Ok(())
         }
