@@ -1,5 +1,5 @@
 -- Walks along edges.
-use Rattle.std.proofs.Common.{◌≡◌, ℕ, zero, suc, ◌<◌, ◌≤◌, List, length, get_or, sym, subst, arith}
+use Rattle.std.proofs.Common.{ℕ, zero, suc, ◌<◌, ◌≤◌, List, length, get_or, sym, subst, arith}
 use Rattle.graph_cycles.specs.Cycles.{HasEdge, Walk, IsOnCycle}
 use Rattle.graph_cycles.specs.Ranks.{StaysLow, Falls}
 use Rattle.graph_cycles.proofs.Following.{edge_within}

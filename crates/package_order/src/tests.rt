@@ -29,7 +29,8 @@ fn told(alloc: Global, answer: &Elaboration) -> Result<Vec<usize>, NoMemory> {
     let mut numbers = Vec::new(alloc);
     if let Elaboration::Order(items) = answer {
         for item in items.as_slice() {
-            numbers.push(item.number * 10 + if item.is_body { 1 } else { 0 })?;
+            let part: usize = if item.is_body { 1 } else { 0 };
+            numbers.push(item.number.wrapping_mul(10).wrapping_add(part))?;
         }
     }
     Ok(numbers)

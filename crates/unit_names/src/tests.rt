@@ -176,16 +176,33 @@ fn plain_unseen(units: &[Head]) -> Option<UnitFault> {
     None
 }
 
-fn plain_fault(units: &[Head]) -> Option<UnitFault> {
-    for (unit, head) in units.iter().enumerate() {
-        if plain_doubled(&units[..unit], head) {
-            return Some(UnitFault::Doubled { unit });
+fn plain_first_doubled(units: &[Head]) -> Option<usize> {
+    for unit in 0..units.len() {
+        if plain_doubled(&units[..unit], &units[unit]) {
+            return Some(unit);
         }
     }
+    None
+}
+
+fn plain_second_main(units: &[Head]) -> Option<usize> {
+    let mut has_main = false;
     for (unit, head) in units.iter().enumerate() {
-        if head.part == Part::Main && units[..unit].iter().any(|u| u.part == Part::Main) {
-            return Some(UnitFault::SecondMain { unit });
+        let is_main = head.part == Part::Main;
+        if is_main && has_main {
+            return Some(unit);
         }
+        has_main = has_main || is_main;
+    }
+    None
+}
+
+fn plain_fault(units: &[Head]) -> Option<UnitFault> {
+    if let Some(unit) = plain_first_doubled(units) {
+        return Some(UnitFault::Doubled { unit });
+    }
+    if let Some(unit) = plain_second_main(units) {
+        return Some(UnitFault::SecondMain { unit });
     }
     if let Some(fault) = plain_unseen(units) {
         return Some(fault);
@@ -203,11 +220,20 @@ fn next_random(seed: &mut u32) -> usize {
     (*seed >> 16) as usize
 }
 
-fn some_withed(seed: &mut u32, names: usize) -> Withed {
+/// A name, one of five or one of twenty-four.
+fn some_name(seed: &mut u32, is_any: bool) -> usize {
+    if is_any {
+        next_random(seed) % 24
+    } else {
+        next_random(seed) % 5
+    }
+}
+
+fn some_withed(seed: &mut u32, is_any: bool) -> Withed {
     match next_random(seed) % 24 {
         0 => Withed::Elsewhere,
         1 => Withed::Clock,
-        _ => Withed::Package(next_random(seed) % names),
+        _ => Withed::Package(some_name(seed, is_any)),
     }
 }
 
@@ -221,16 +247,16 @@ fn some_part(seed: &mut u32) -> Part {
 
 /// A few units; few of their with clauses name what is not there.
 fn some_units(alloc: Global, seed: &mut u32) -> Result<Vec<Head>, NoMemory> {
-    let names = 4 + next_random(seed) % 20;
+    let is_any = next_random(seed) % 3 == 0;
     let mut units = Vec::new(alloc);
     for _ in 0..next_random(seed) % 8 {
         let mut withs = Items::new(alloc);
         for _ in 0..next_random(seed) % 3 {
-            withs.push(some_withed(seed, names))?;
+            withs.push(some_withed(seed, is_any))?;
         }
         units.push(Head {
             part: some_part(seed),
-            name: next_random(seed) % names,
+            name: some_name(seed, is_any),
             withs,
         })?;
     }

@@ -1,4 +1,4 @@
-use Rattle.std.proofs.Common.{◌≤◌, ◌<◌, sym, subst, get_or}
+use Rattle.std.proofs.Common.{◌≤◌, sym, subst, get_or}
 use Rattle.std.specs.List.{Contains}
 use Rattle.graph_cycles.proofs.Following.{each_item}
 use Rattle.graph_cycles.proofs.ranks.none_rises.Goals as goal

@@ -1,8 +1,6 @@
-use Rattle.std.proofs.Common.{◌≡◌, ◌+◌, ◌<◌, ◌≤◌, ℕ, length, get_or, sym, ◌∙◌, subst, arith, ⊎_elim}
+use Rattle.std.proofs.Common.{◌≡◌, ◌<◌, ◌≤◌, length, get_or, sym, ◌∙◌, subst, arith, ⊎_elim}
 use Rattle.std.specs.List.{Contains}
 use Rattle.std.proofs.lemmas.List.Elements.{Contains-get_or}
-use Rattle.graph_cycles.specs.Cycles.{HasEdge}
-use Rattle.graph_cycles.specs.Found.{IsFound}
 use Rattle.graph_cycles.proofs.Searched.{answers, closed_more, none_left, walk_on}
 use Rattle.graph_cycles.proofs.search.comes_back.Goals as goal
 
