@@ -1,12 +1,12 @@
 -- The first fault so far is the least of those that were found.
-use Rattle.std.proofs.Common.{◌≡◌, ◌⊎◌, ◌<◌, ℕ, Bool, true, false, nat_eq, nat_lt, cond, if◌then◌else◌, List, [], ◌∷◌, ◌++◌, Option, Some, None, All, inl, inr, refl, sym, ap, ◌∙◌, subst, arith, ⊎_elim}
+use Rattle.std.proofs.Common.{◌≡◌, ◌⊎◌, ◌<◌, ℕ, Bool, true, false, nat_lt, if◌then◌else◌, List, [], ◌∷◌, Option, Some, None, inl, inr, refl, sym, ap, ◌∙◌, subst, arith, ⊎_elim}
 use Rattle.std.proofs.lemmas.Bool.{eq-eqb, ne_eqb, ltb-true, ltb-false, le-ltb, cases_eq, cases_Bool, cond-true, cond-false, both_ways}
 use Rattle.std.proofs.lemmas.List.Elements.{All-nil, All-cons, All-head, All-tail}
 use Rattle.spark_base.specs.declared.numbers.ExprNo.{ExprNo}
 use Rattle.spark_base.specs.declared.numbers.DeclNo.{DeclNo}
 use Rattle.spark_base.specs.declared.numbers.TypeNo.{TypeNo}
 use Rattle.name_findings.specs.declared.findings.Fault.{Fault}
-use Rattle.name_findings.specs.Findings.{Finding, Refuses, Denotes, HasType, Told, add, add_all, earlier, lex, is_before, rank, faults_in, IsIn, IsFirst, Answers}
+use Rattle.name_findings.specs.Findings.{Finding, Refuses, Denotes, HasType, Told, add, add_all, earlier, lex, is_before, rank, faults_in, IsFirst, Answers}
 
 lex_same : (a b : ℕ) (r : Bool) → a ≡ b → lex a b r ≡ r
 lex_same a b r e = rw (eq-eqb a b e) refl

@@ -1,5 +1,5 @@
 //! The record of what is found.
-ghost use Rattle.std.specs.Prelude.{◌≡◌, None, IfOk, replicate};
+ghost use Rattle.std.specs.Prelude.{◌≡◌, None, IfOk};
 ghost use Rattle.name_findings.specs.Findings as spec;
 
 use spark_base::{AspectNo, DeclNo, ExprNo, NoMemory, Pos, TypeNo};

@@ -16,7 +16,7 @@ use Rattle.seen_names.specs.declared.entities.Entity.TheVariants as entities
 use Rattle.seen_names.specs.declared.entities.Valued.{Valued}
 use Rattle.seen_names.specs.declared.shown.Callable.{Callable}
 use Rattle.seen_names.specs.Contexts.{Context, sight_at}
-use Rattle.seen_names.specs.Entities.{as_value, made_by, part, call_result, is_function, sure_in, sure_as, type_in}
+use Rattle.seen_names.specs.Entities.{made_by, part, call_result, is_function, sure_in, sure_as, type_in}
 
 abbrev pub index_shape : Valued → Option Shape → Application
 index_shape v (Some (shapes.Array index of)) = applications.Index v index of

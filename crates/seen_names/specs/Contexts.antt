@@ -1,5 +1,5 @@
 -- The context of a place, and what a name denotes there.
-use Rattle.std.specs.Prelude.{ℕ, Bool, false, ◌&&◌, ◌||◌, if◌then◌else◌, nat_eq, nat_lt, List, [], find, get_or, position, Option, Some, None}
+use Rattle.std.specs.Prelude.{ℕ, Bool, ◌&&◌, ◌||◌, if◌then◌else◌, nat_eq, nat_lt, List, [], find, get_or, position, Option, Some, None}
 use Rattle.std.specs.Str.{bytes_eq}
 use Rattle.spark_base.specs.declared.name.Name.{Name}
 use Rattle.scope_table.specs.Scopes.{latest}

@@ -110,7 +110,14 @@ impl Tables {
     }
 
     /// A bound or the length of an array or a discrete type.
-    fn range_gift(&self, place: Place, what: Property, is_type: bool, t: TypeNo, count: usize) -> Gift
+    fn range_gift(
+        &self,
+        place: Place,
+        what: Property,
+        is_type: bool,
+        t: TypeNo,
+        count: usize,
+    ) -> Gift
         ensures { result ≡ spec.range_gift (context self.now place) what is_type t count (shape (sight_at (context self.now place)) t) }
     {
         if let Some(Shape::Array { index, .. }) = self.types.shape(place.home, t) {

@@ -116,7 +116,12 @@ impl Tables {
     pub fn member(&self, place: Place, home: usize, name: &Name) -> Option<Shown>
         ensures { result ≡ spec.member (context self.now place) home name.now }
     {
-        member_by(&self.members, home, is_number(place.home, home), self.key_of(name))
+        member_by(
+            &self.members,
+            home,
+            is_number(place.home, home),
+            self.key_of(name),
+        )
     }
 
     /// The operation of a protected unit: private ones are seen in its body alone. It goes over the units that have one of
@@ -125,7 +130,12 @@ impl Tables {
     pub fn operation(&self, place: Place, unit: usize, name: &Name) -> Option<Shown>
         ensures { result ≡ spec.operation (context self.now place) unit name.now }
     {
-        member_by(&self.operations, unit, is_number(place.unit, unit), self.key_of(name))
+        member_by(
+            &self.operations,
+            unit,
+            is_number(place.unit, unit),
+            self.key_of(name),
+        )
     }
 
     /// A subprogram, by its number.

@@ -1,6 +1,5 @@
 //! What a name stands for, before it is taken as a value.
 ghost use Rattle.std.specs.Prelude.{◌≡◌, slice_get};
-ghost use Rattle.std.specs.Option.{option_copied};
 ghost use Rattle.seen_names.specs.Contexts.{context};
 ghost use Rattle.seen_names.specs.Entities as spec;
 ghost use Rattle.seen_types.specs.Types.{maybe_of};

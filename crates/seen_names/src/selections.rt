@@ -1,6 +1,5 @@
 //! What stands behind a point.
 ghost use Rattle.std.specs.Prelude.{◌≡◌, find, Some, None};
-ghost use Rattle.std.specs.Option.{option_copied};
 ghost use Rattle.seen_names.specs.Contexts.{context};
 ghost use Rattle.seen_names.specs.Entities as spec;
 

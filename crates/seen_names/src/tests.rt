@@ -1,5 +1,7 @@
-use crate::{Application, Callable, Entity, Gift, Place, Role, Selection, Shown, Subprogram, Tables, Value, What};
-use crate::{is_unit_name, of_shown, selected, type_in};
+use crate::{
+    Application, Callable, Entity, Gift, Place, Role, Selection, Shown, Subprogram, Tables, Value,
+    What, is_unit_name, of_shown, selected, type_in,
+};
 use ada_forms::Property;
 use name_findings::Mention;
 use name_keys::KeyTable;
@@ -187,7 +189,10 @@ fn components_calls_and_indexes(rt: HostRuntime) -> Result<(), Fail> {
         Application::Index(_, index, of) => index == BOOLEAN && of == INTEGER,
         _ => false,
     };
-    assert!(rt; is_index, "a function without formals that gives an array is indexed");
+    assert!(rt;
+        is_index,
+        "a function without formals that gives an array is indexed"
+    );
     let is_procedure = match tables.application(OUTSIDE, Entity::Called(at(1), false, 1)) {
         Application::NoFunction(_) => true,
         _ => false,

@@ -1,9 +1,8 @@
 //! The table of types, and what a type is at a place.
-ghost use Rattle.std.specs.Prelude.{◌≡◌, [], ◌∷◌, ◌++◌, nat_eq, slice_get, OnOk, OnErr};
+ghost use Rattle.std.specs.Prelude.{◌≡◌, [], ◌∷◌, ◌++◌, slice_get, OnOk, OnErr};
 ghost use Rattle.std.specs.Option.{option_copied};
 ghost use Rattle.seen_types.specs.Types as spec;
 ghost use Rattle.seen_types.specs.Types.{sight};
-ghost use Rattle.spark_base.specs.declared.numbers.TypeNo.{TypeNo as Number};
 
 use crate::seen::{Seen, Shape};
 use spark_base::{NoMemory, TypeNo};
