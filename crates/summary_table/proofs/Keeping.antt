@@ -350,9 +350,6 @@ module _ (sys : System) (laws : IsSystem sys) (seats : ℕ) (words : List ℕ) (
           workers = put (claims_of sys words views).workers id (begins None);
         })
 
-    holder : (claims_of sys words views).workers id ≡ worker_of sys v
-    holder = worker_is
-
     held_here : ((claims_of sys words views).workers id).holds ≡ Some b
     held_here = ap (λ (k : Worker). k.holds) worker_is ∙ holds
 
