@@ -20,7 +20,7 @@ use spark_base::{BodyNo, NoMemory, WordNo};
 use std::alloc::Global;
 use std::marker::PhantomData;
 
-/// The word of a gate that a claim found, which is not 1: the body is held, or it is not dirty.
+/// The word of a gate that a claim found, which is 0, 2 or 3: the body is not dirty, or it is held.
 #[derive(Clone, Copy, Debug, PartialEq, Eq)]
 pub struct NotDirty {
     pub word: u64,
@@ -140,7 +140,7 @@ impl<E: Equations> SummaryTable<E> {
         ensures same { seat.new.token.table_id ≡ seat.old.token.table_id }
         ensures answer { MatchResult result
             (λ _. (seat.new.token.me.0 ≡ won_claim seat.old.token.me.0 b.0) × (seat.new.holds ≡ Some b.0))
-            (λ e. (seat.new.token.me.0 ≡ lost_claim seat.old.token.me.0 b.0) × ((seat.new.holds ≡ None) × (e.word ≢ 1))) }
+            (λ e. (seat.new.token.me.0 ≡ lost_claim seat.old.token.me.0 b.0) × ((seat.new.holds ≡ None) × ((e.word ≢ 1) × (e.word < 4)))) }
     {
         let found = self
             .table
