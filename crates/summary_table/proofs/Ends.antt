@@ -74,6 +74,7 @@ module _ (sys : System) (laws : IsSystem sys) (seats : ℕ) (words : List ℕ) (
           (λ _. subst (λ l. Within (union_in w l) (slice_index words (word_at sys w))) (sym same_sets.0) (subst (λ (u : View). Within (union_in w u.seen) (slice_index words (word_at sys w))) is_v (kept.seen_is_there id w)))
           (λ _. kept.seen_is_there i w)
           (λ _. subst (λ l. Within (union_in w l) (slice_index words (word_at sys w))) (sym no_sets.0) refl);
+      low = kept.low;
       marked = λ b h. ⊎_elim (λ (t : HasWoken views b). inl (split_woken b t)) (λ (t : NoneClaimed views b). inr (split_claimed b t)) (kept.marked b h);
       taken = λ b lt. ⊎_elim (λ (e : slice_index words (gate_at b) ≡ 1). inl e) (λ (h : HasClaimed views b). inr (split_taken b h)) (kept.taken b lt);
       tried_is_taken = split_tried;
@@ -140,6 +141,7 @@ module _ (sys : System) (laws : IsSystem sys) (seats : ℕ) (words : List ℕ) (
       seen_is_there = λ i u. at_meet i (λ x. Within (union_in u x.seen) (slice_index words (word_at sys u))) (λ _. refl)
           (λ _. union_in-append u v.seen w.seen _ (subst (λ (x : View). Within (union_in u x.seen) (slice_index words (word_at sys u))) is_v (kept.seen_is_there id u)) (subst (λ (x : View). Within (union_in u x.seen) (slice_index words (word_at sys u))) is_w (kept.seen_is_there other u)))
           (λ _ _. kept.seen_is_there i u);
+      low = kept.low;
       marked = λ b h. ⊎_elim (λ (t : HasWoken views b). inl (meet_woken b t.0 t.1 (cases_eq t.0 other) (cases_eq t.0 id))) (λ (t : NoneClaimed views b). inr (meet_claimed b t)) (kept.marked b h);
       taken = λ b lt. ⊎_elim (λ (e : slice_index words (gate_at b) ≡ 1). inl e) (λ (h : HasClaimed views b). inr (taken_after b h)) (kept.taken b lt);
       tried_is_taken = meet_tried;
@@ -247,6 +249,7 @@ module _ (sys : System) (laws : IsSystem sys) (seats : ℕ) (some_seat : 0 < sea
     weighed = omega arith;
     counted = λ i. at_first i TalliesOrWeighs (inr some_seat) (inl refl);
     seen_is_there = λ i w. at_first i (λ u. Within (union_in w u.seen) (slice_index words (word_at sys w))) refl refl;
+    low = λ b lt. subst (λ x. x < 4) (sym (ap (slice_index words) (one_on b) ∙ gate_one sys.bodies sys.words b lt)) (omega arith);
     marked = λ b h. inr (λ i. at_first i (λ u. is_in b u.claimed ≡ false) refl refl);
     taken = λ b lt. inl (ap (slice_index words) (one_on b) ∙ gate_one sys.bodies sys.words b lt);
     tried_is_taken = λ i b. at_first i (λ u. IsTrue (is_in b u.tried) → HasClaimed first b) (λ h. absurd (false≢true h)) (λ h. absurd (false≢true h));

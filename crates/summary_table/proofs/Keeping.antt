@@ -3,6 +3,7 @@ use Rattle.std.proofs.Common.{◌≡◌, ◌⊎◌, inl, inr, ⊎_elim, ℕ, ◌
 use Rattle.std.specs.Prelude.{IsTrue, slice_index, bit_or, bit_and, ◌==◌}
 use Rattle.std.specs.Int.{bit_at}
 use Rattle.std.proofs.lemmas.List.{get_or-set_same, get_or-set_other, length-set, set-get_or}
+use Rattle.std.proofs.lemmas.Nat.{or_lt, and_le_l}
 use Rattle.std.proofs.lemmas.Nat.Bits.{bit_at_or, bit_at_and, bit_at-lt}
 use Rattle.std.proofs.lemmas.Bool.{cases_eq, cases_Bool, false≢true, both_ways, or_left, or_right, or_cases, or_from, and_parts, eqb-true, lt-ltb, ltb-true}
 use mathlib.Core.Option.{some}
@@ -44,7 +45,8 @@ module _ (sys : System) (laws : IsSystem sys) (seats : ℕ) (words : List ℕ) (
       (marks : (b : ℕ) → IsTrue (has_mark sys more 0 b) → IsTrue (is_in b k.woke) ⊎ (IsTrue (has_mark sys words 0 b) × (is_in b v.claimed ≡ false → is_in b k.claimed ≡ false)))
       (claims : (b : ℕ) → IsTrue (is_in b v.claimed) → IsTrue (is_in b k.claimed))
       (gates : (b : ℕ) → b < sys.bodies → slice_index words (gate_at b) ≡ 1 → (slice_index more (gate_at b) ≡ 1) ⊎ IsTrue (is_in b k.claimed))
-      (tries : (b : ℕ) → IsTrue (is_in b k.tried) → IsTrue (is_in b v.tried) ⊎ HasClaimed views b) where
+      (tries : (b : ℕ) → IsTrue (is_in b k.tried) → IsTrue (is_in b v.tried) ⊎ HasClaimed views b)
+      (lows : (b : ℕ) → b < sys.bodies → slice_index more (gate_at b) < 4) where
     at_view : (i : ℕ) (P : View → Type 0) → (i ≡ id → P k) → ((i ≡ id → ⊥) → P (view_at views i)) → P (view_at (set views id k) i)
     at_view i P here else = subst P (sym (claimed.views_put sys words views id v there k i)) (at_put (view_at views) id k i P here else)
 
@@ -80,10 +82,18 @@ module _ (sys : System) (laws : IsSystem sys) (seats : ℕ) (words : List ℕ) (
       weighed = let t = weights_set views id v k there in let u = kept.weighed in omega arith;
       counted = λ i. at_view i TalliesOrWeighs (λ _. inr (subst (λ n. 0 < n) (sym weight) active)) (λ _. kept.counted i);
       seen_is_there = λ i w. at_view i (λ u. Within (union_in w u.seen) (slice_index more (word_at sys w))) (λ _. seen_is w) (λ _. within_trans _ _ _ (kept.seen_is_there i w) (grown w));
+      low = lows;
       marked = marked;
       taken = taken_still;
       tried_is_taken = tried_still;
     }
+
+  -- one gate is another of the four
+  low_set : (b x : ℕ) → b < sys.bodies → x < 4 → (d : ℕ) → d < sys.bodies → slice_index (set words (gate_at b) x) (gate_at d) < 4
+  low_set b x in_range low d lt = ⊎_elim
+      (λ (f : d ≡ b). subst (λ m. slice_index (set words (gate_at b) x) (gate_at m) < 4) (sym f)
+      (subst (λ y. y < 4) (sym (get_or-set_same words (gate_at b) x 0 (let s = kept.size in omega arith))) low))
+      (λ (n : d ≡ b → ⊥). subst (λ y. y < 4) (sym (get_or-set_other words (gate_at b) (gate_at d) x 0 (λ f. n (omega arith)))) (kept.low d lt)) (cases_eq d b)
 
   pub seen_before : (w : ℕ) → Within (union_in w v.seen) (slice_index words (word_at sys w))
   seen_before w = subst (λ (u : View). Within (union_in w u.seen) (slice_index words (word_at sys w))) is_v (kept.seen_is_there id w)
@@ -123,7 +133,7 @@ module _ (sys : System) (laws : IsSystem sys) (seats : ℕ) (words : List ℕ) (
     load_keeps = subst (λ ws. Inv sys (claims_of sys ws (set views id reader)) → Kept sys seats ws (set views id reader)) (sym (set-get_or words (word_at sys w) 0))
         (λ inv. keeps_rule reader words refl inv refl (λ u. within_refl _)
         (λ u. seen_more w found u _ (seen_before u) (λ e. subst (λ m. Within found (slice_index words (word_at sys m))) (sym e) (within_refl found)))
-        (λ a h. h) (no_marks reader refl) (λ a h. h) (λ a lt e. inl e) (λ a h. inl h))
+        (λ a h. h) (no_marks reader refl) (λ a h. h) (λ a lt e. inl e) (λ a h. inl h) kept.low)
         (subst (Inv sys) (sym load_claims) (keeps.read_keeps sys laws (claims_of sys words views) kept.inv id b (ap (λ (k : Worker). k.holds) worker_is ∙ holds) w callee))
 
   -- a claim that wins
@@ -160,7 +170,7 @@ module _ (sys : System) (laws : IsSystem sys) (seats : ℕ) (words : List ℕ) (
           (subst (Inv sys) (sym claim_claims) (keeps.claim_keeps sys laws (claims_of sys words views) kept.inv id b (ap (λ (k : Worker). k.holds) worker_is ∙ idle)
           (mark_is 0 ∙ ap (λ n. bit_at n 0 == 1) is_one) (mark_is 1 ∙ ap (λ n. bit_at n 1 == 1) is_one)))
           refl (λ w. subst (λ x. Within (slice_index words (word_at sys w)) x) (sym (row_stays w)) (within_refl _))
-          (λ w. subst (λ x. Within (union_in w v.seen) x) (sym (row_stays w)) (seen_before w)) (λ a h. h) claim_marks (λ a h. or_right _ _ h) claim_gates (λ a h. absurd (false≢true h))
+          (λ w. subst (λ x. Within (union_in w v.seen) x) (sym (row_stays w)) (seen_before w)) (λ a h. h) claim_marks (λ a h. or_right _ _ h) claim_gates (λ a h. absurd (false≢true h)) (low_set b 2 below (omega arith))
 
     -- a claim that loses changes no word
     abbrev loser : View
@@ -180,7 +190,7 @@ module _ (sys : System) (laws : IsSystem sys) (seats : ℕ) (words : List ℕ) (
         (λ (t : is_in a v.tried ≡ true). inl t) (or_cases _ _ h)
 
     pub lose_keeps : (gate ≡ 1 → ⊥) → Kept sys seats words (set views id loser)
-    lose_keeps ne = keeps_rule loser words refl (subst (Inv sys) (sym lose_claims) kept.inv) refl (λ w. within_refl _) seen_before (λ a h. h) (no_marks loser refl) (λ a h. h) (λ a lt e. inl e) (lose_tries ne)
+    lose_keeps ne = keeps_rule loser words refl (subst (Inv sys) (sym lose_claims) kept.inv) refl (λ w. within_refl _) seen_before (λ a h. h) (no_marks loser refl) (λ a h. h) (λ a lt e. inl e) (lose_tries ne) kept.low
 
   gate_set : (b x : ℕ) (w : ℕ) → b < sys.bodies → slice_index (set words (gate_at b) x) (word_at sys w) ≡ slice_index words (word_at sys w)
   gate_set b x w lt = get_or-set_other words (gate_at b) (word_at sys w) x 0 (λ e. absurd (omega arith))
@@ -256,7 +266,7 @@ module _ (sys : System) (laws : IsSystem sys) (seats : ℕ) (words : List ℕ) (
     wake_keeps b holds why = keeps_rule waker (set words (gate_at a) woken_gate) (length-set words (gate_at a) woken_gate) (wake_inv b holds why) refl
         (λ w. subst (λ x. Within (slice_index words (word_at sys w)) x) (sym (gate_set a woken_gate w below)) (within_refl _))
         (λ w. subst (λ x. Within (union_in w v.seen) x) (sym (gate_set a woken_gate w below)) (seen_before w))
-        (λ b' h. or_right _ _ h) wake_marks (λ b' h. h) wake_gates (λ b' h. inl h)
+        (λ b' h. or_right _ _ h) wake_marks (λ b' h. h) wake_gates (λ b' h. inl h) (low_set a woken_gate below (or_lt 2 (slice_index words (gate_at a)) 1 (kept.low a below) (omega arith)))
 
   -- bits that are joined into a word of the held row
   module _ (w bits b : ℕ) (holds : v.holds ≡ Some b) (row : IsTrue (in_row sys b w)) (covered : AreCovered sys v w bits) where
@@ -316,6 +326,7 @@ module _ (sys : System) (laws : IsSystem sys) (seats : ℕ) (words : List ℕ) (
         (λ e. subst (λ n. Within bits (slice_index (set words (word_at sys w) (bit_or old bits)) (word_at sys n))) (sym e)
         (subst (λ x. Within bits x) (sym (get_or-set_same words (word_at sys w) (bit_or old bits) 0 (let s = kept.size in let l = within_words in omega arith))) (within_right old bits))))
         (λ a h. h) row_marks (λ a h. h) (λ a lt e. inl (get_or-set_other words (word_at sys w) (gate_at a) (bit_or old bits) 0 (λ f. absurd (omega arith)) ∙ e)) (λ a h. inl h)
+        (λ a lt. subst (λ y. y < 4) (sym (get_or-set_other words (word_at sys w) (gate_at a) (bit_or old bits) 0 (λ f. absurd (omega arith)))) (kept.low a lt))
 
   -- a release of a body whose debts are paid, and that is done or was woken
   module _ (b : ℕ) (holds : v.holds ≡ Some b) (paid : IsTrue (owes_none sys (worker_of sys v))) (done : IsFinished sys b (worker_of sys v) ⊎ IsTrue v.dropped) where
@@ -350,9 +361,6 @@ module _ (sys : System) (laws : IsSystem sys) (seats : ℕ) (words : List ℕ) (
           workers = put (claims_of sys words views).workers id (begins None);
         })
 
-    holder : (claims_of sys words views).workers id ≡ worker_of sys v
-    holder = worker_is
-
     held_here : ((claims_of sys words views).workers id).holds ≡ Some b
     held_here = ap (λ (k : Worker). k.holds) worker_is ∙ holds
 
@@ -376,3 +384,4 @@ module _ (sys : System) (laws : IsSystem sys) (seats : ℕ) (words : List ℕ) (
         (λ w. subst (λ x. Within (slice_index words (word_at sys w)) x) (sym (gate_set b free_gate w in_range)) (within_refl _))
         (λ w. subst (λ x. Within (union_in w v.seen) x) (sym (gate_set b free_gate w in_range)) (seen_before w))
         (λ a h. h) release_marks (λ a h. h) release_gates (λ a h. inl h)
+        (low_set b free_gate in_range (let l = and_le_l (slice_index words (gate_at b)) 18446744073709551613 in let h = kept.low b in_range in omega arith))

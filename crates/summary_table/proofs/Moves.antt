@@ -68,7 +68,7 @@ module _ (sys : System) (laws : IsSystem sys) (seats slots id : ℕ) (me : Me �
       Act.keeps,
       tt,
       claim_step s kept there idle (slice_index s.words (gate_at b)) refl (cases_eq (slice_index s.words (gate_at b)) 1),
-      (λ a e. ap (λ c. (after_claim v c (slice_index s.words (gate_at b)), me.1)) (one_gate a e)),
+      (λ a e. (ap (λ c. (after_claim v c (slice_index s.words (gate_at b)), me.1)) (one_gate a e), kept.low b below)),
     )
 
     -- a seat that owes holds a body

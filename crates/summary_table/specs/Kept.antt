@@ -63,6 +63,7 @@ pub record Kept (sys : System) (seats : ℕ) (words : List ℕ) (views : List Vi
   pub weighed : weights views ≡ seats
   pub counted : (i : ℕ) → TalliesOrWeighs (view_at views i)
   pub seen_is_there : (i w : ℕ) → Within (union_in w (view_at views i).seen) (rows_in sys words w)
+  pub low : (b : ℕ) → b < sys.bodies → slice_index words (gate_at b) < 4
   pub marked : (b : ℕ) → IsTrue (has_mark sys words 0 b) → HasWoken views b ⊎ NoneClaimed views b
   pub taken : (b : ℕ) → b < sys.bodies → (slice_index words (gate_at b) ≡ 1) ⊎ HasClaimed views b
   pub tried_is_taken : (i b : ℕ) → IsTrue (is_in b (view_at views i).tried) → HasClaimed views b

@@ -25,8 +25,9 @@ abbrev pub Joins : System → Step ℕ → Me ℕ View → ℕ → Me ℕ View �
 Joins sys s me found after =
     (w : ℕ) → s.word ≡ word_at sys w → (after ≡ (joined_in me.0 w s.first found, me.1)) × Within (union_in w me.0.seen) found
 
+-- a claim finds a gate
 abbrev pub Claims : Step ℕ → Me ℕ View → ℕ → Me ℕ View → Type 0
-Claims s me found after = (b : ℕ) → s.word ≡ gate_at b → after ≡ (after_claim me.0 b found, me.1)
+Claims s me found after = (b : ℕ) → s.word ≡ gate_at b → (after ≡ (after_claim me.0 b found, me.1)) × (found < 4)
 
 abbrev pub Wakes : Step ℕ → Me ℕ View → ℕ → Me ℕ View → Type 0
 Wakes s me found after = (a : ℕ) → s.word ≡ gate_at a → after ≡ (woken me.0 a, me.1)

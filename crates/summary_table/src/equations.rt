@@ -11,8 +11,10 @@ use std::marker::PhantomData;
 pub trait Equations {
     ghost use Rattle.claim_core.specs.System.{System, IsSystem};
 
+    // What is solved: bodies, words, who calls whom, and what follows from what.
     ghost system: { System };
 
+    // What is asked of it: what follows for a body follows from bits of its callees, and more of these make no less.
     ghost lawful: { IsSystem system };
 }
 

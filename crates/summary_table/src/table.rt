@@ -1,10 +1,12 @@
 //! The table and its calls.
-ghost use Rattle.std.specs.Prelude.{◌≡◌, ◌≢◌, ◌⊎◌, ℕ, ◌+◌, ◌*◌, ◌<◌, ◌≤◌, ◌==◌, ◌||◌, List, [], ◌∷◌, length, All, Some, None, IsTrue, MatchResult, IfOk, bit_or};
+ghost use Rattle.std.specs.Prelude.{◌≡◌, ◌≢◌, ◌⊎◌, ℕ, ◌+◌, ◌<◌, ◌≤◌, ◌==◌, ◌||◌, [], ◌∷◌};
+ghost use Rattle.std.specs.Prelude.{length, All, Some, None, IsTrue, MatchResult, IfOk};
 ghost use Rattle.atomic_table.specs.Seated.{TableId};
 ghost use Rattle.claim_core.specs.Bits.{Within};
 ghost use Rattle.claim_core.specs.System.{owned_by, in_row, in_callee};
 ghost use Rattle.claim_core.specs.Guards.{owes_none, IsFinished};
-ghost use Rattle.summary_table.specs.Views.{worker_of, AreCovered, union_in, owed_in, counts_of, newcomer, loaded, won_claim, lost_claim, woken, joined_in, released, met, parted, part_of};
+ghost use Rattle.summary_table.specs.Views.{worker_of, AreCovered, union_in, owed_in, counts_of, newcomer};
+ghost use Rattle.summary_table.specs.Views.{loaded, won_claim, lost_claim, woken, joined_in, released, met, parted};
 ghost use Rattle.summary_table.specs.Kept.{first_words, AreClosed, AreClosedBy};
 ghost use Rattle.summary_table.specs.Tells.{IsOf};
 
@@ -18,7 +20,7 @@ use spark_base::{BodyNo, NoMemory, WordNo};
 use std::alloc::Global;
 use std::marker::PhantomData;
 
-/// The word of a gate that a claim found, which is not 1: the body is held, or it is not dirty.
+/// The word of a gate that a claim found, which is 0, 2 or 3: the body is not dirty, or it is held.
 #[derive(Clone, Copy, Debug, PartialEq, Eq)]
 pub struct NotDirty {
     pub word: u64,
@@ -62,7 +64,8 @@ impl<E: Equations> SummaryTable<E> {
         requires seats { (0 < seats) × (seats ≤ 64) }
         ensures seats { IfOk result (λ r. r.0.seats ≡ seats) }
         ensures count { IfOk result (λ r. length r.1.items ≡ seats) }
-        ensures each { IfOk result (λ r. All (λ s. (s.token.table_id ≡ r.0.table.shared.table_id) × ((s.token.me.0 ≡ newcomer 1) × (s.holds ≡ None))) r.1.items) }
+        ensures each { IfOk result (λ r. All (λ s.
+            (s.token.table_id ≡ r.0.table.shared.table_id) × ((s.token.me.0 ≡ newcomer 1) × (s.holds ≡ None))) r.1.items) }
     {
         let (table, first) = SummaryTable::open(alloc, bodies, words, seats)?;
         let seats = table.seats_of(first)?;
@@ -80,7 +83,8 @@ impl<E: Equations> SummaryTable<E> {
         requires words { (E.system).words ≡ words }
         requires seats { 0 < seats }
         ensures seats { IfOk result (λ r. r.0.seats ≡ seats) }
-        ensures seat { IfOk result (λ r. (r.1.token.table_id ≡ r.0.table.shared.table_id) × ((r.1.token.me.0 ≡ newcomer seats) × (r.1.holds ≡ None))) }
+        ensures seat { IfOk result (λ r.
+            (r.1.token.table_id ≡ r.0.table.shared.table_id) × ((r.1.token.me.0 ≡ newcomer seats) × (r.1.holds ≡ None))) }
     {
         let row = first_row(alloc, bodies, words)?;
         let (table, token) = Table::of_words(alloc, row.as_slice(), &seats)?;
@@ -103,7 +107,8 @@ impl<E: Equations> SummaryTable<E> {
         requires of { IsOf self.now.table.shared.table_id first.token.table_id first.token.me.0 }
         requires view { first.token.me.0 ≡ newcomer self.now.seats }
         ensures count { IfOk result (λ v. length v.items ≡ self.now.seats) }
-        ensures each { IfOk result (λ v. All (λ s. (s.token.table_id ≡ self.now.table.shared.table_id) × ((s.token.me.0 ≡ newcomer 1) × (s.holds ≡ None))) v.items) }
+        ensures each { IfOk result (λ v. All (λ s.
+            (s.token.table_id ≡ self.now.table.shared.table_id) × ((s.token.me.0 ≡ newcomer 1) × (s.holds ≡ None))) v.items) }
     {
         let mut seats = Vec::new(self.alloc);
         for _i in 1..self.seats {
@@ -119,7 +124,8 @@ impl<E: Equations> SummaryTable<E> {
         requires heavy { 1 < (seat.old.token.me.0).weight }
         ensures same { (seat.new.token.table_id ≡ seat.old.token.table_id) × (seat.new.holds ≡ seat.old.holds) }
         ensures left { seat.new.token.me.0 ≡ parted seat.old.token.me.0 }
-        ensures right { (result.token.table_id ≡ seat.old.token.table_id) × ((result.token.me.0 ≡ newcomer 1) × (result.holds ≡ None)) }
+        ensures right { (result.token.table_id ≡ seat.old.token.table_id)
+            × ((result.token.me.0 ≡ newcomer 1) × (result.holds ≡ None)) }
     {
         let token = self.table.shared.split_seat::<Part>(&mut seat.token);
         Seat { token, holds: None }
@@ -134,7 +140,7 @@ impl<E: Equations> SummaryTable<E> {
         ensures same { seat.new.token.table_id ≡ seat.old.token.table_id }
         ensures answer { MatchResult result
             (λ _. (seat.new.token.me.0 ≡ won_claim seat.old.token.me.0 b.0) × (seat.new.holds ≡ Some b.0))
-            (λ e. (seat.new.token.me.0 ≡ lost_claim seat.old.token.me.0 b.0) × ((seat.new.holds ≡ None) × (e.word ≢ 1))) }
+            (λ e. (seat.new.token.me.0 ≡ lost_claim seat.old.token.me.0 b.0) × ((seat.new.holds ≡ None) × ((e.word ≢ 1) × (e.word < 4)))) }
     {
         let found = self
             .table
@@ -198,7 +204,8 @@ impl<E: Equations> SummaryTable<E> {
         requires of { IsOf self.now.table.shared.table_id seat.old.token.table_id seat.old.token.me.0 }
         requires busy { seat.old.holds ≢ None }
         requires paid { IsTrue (owes_none E.system (worker_of E.system seat.old.token.me.0)) }
-        requires done { (b : ℕ) → seat.old.holds ≡ Some b → IsFinished E.system b (worker_of E.system seat.old.token.me.0) ⊎ IsTrue (seat.old.token.me.0).dropped }
+        requires done { (b : ℕ) → seat.old.holds ≡ Some b
+            → IsFinished E.system b (worker_of E.system seat.old.token.me.0) ⊎ IsTrue (seat.old.token.me.0).dropped }
         ensures same { seat.new.token.table_id ≡ seat.old.token.table_id }
         ensures view { seat.new.token.me.0 ≡ released seat.old.token.me.0 }
         ensures idle { seat.new.holds ≡ None }

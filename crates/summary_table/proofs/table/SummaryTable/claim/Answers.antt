@@ -18,7 +18,7 @@ compare_exchange-found-requires g c =
 pub invariant_of-seat : goal.invariant_of-seat
 invariant_of-seat g c =
     let seat = c.args.seat.now in
-    let told = c.compare_exchange-found.ensures.2 c.args.b.0 refl ∙ ap (λ (v : View). (v, seat.token.me.1)) (moves.won_at seat.token.me.0 c.args.b.0 c.compare_exchange-found.result c.if-found-eq1.true) in record {
+    let told = (c.compare_exchange-found.ensures.2 c.args.b.0 refl).0 ∙ ap (λ (v : View). (v, seat.token.me.1)) (moves.won_at seat.token.me.0 c.args.b.0 c.compare_exchange-found.result c.if-found-eq1.true) in record {
       held = ap (λ (m : Me ℕ View). (m.0).holds) told;
       bare = ap (λ (m : Me ℕ View). m.1) told ∙ seat.bare;
       in_range = λ b e. subst (λ n. 1 + n < c.compare_exchange-found.new.seat.table_id.words) (some_one _ _ e)
@@ -28,7 +28,7 @@ invariant_of-seat g c =
 pub invariant_of-seat-else-found-eq1 : goal.invariant_of-seat-else-found-eq1
 invariant_of-seat-else-found-eq1 g c =
     let seat = c.args.seat.now in
-    let told = c.compare_exchange-found.ensures.2 c.args.b.0 refl ∙ ap (λ (v : View). (v, seat.token.me.1)) (moves.lost_at seat.token.me.0 c.args.b.0 c.compare_exchange-found.result c.if-found-eq1.false) in record {
+    let told = (c.compare_exchange-found.ensures.2 c.args.b.0 refl).0 ∙ ap (λ (v : View). (v, seat.token.me.1)) (moves.lost_at seat.token.me.0 c.args.b.0 c.compare_exchange-found.result c.if-found-eq1.false) in record {
       held = ap (λ (m : Me ℕ View). (m.0).holds) told ∙ seat.held;
       bare = ap (λ (m : Me ℕ View). m.1) told ∙ seat.bare;
       in_range = λ b e. rw (c.compare_exchange-found.ensures.0) (seat.in_range b e);
@@ -37,13 +37,13 @@ invariant_of-seat-else-found-eq1 g c =
 pub returns-then-found-eq1-clause-answer : goal.returns-then-found-eq1-clause-answer
 returns-then-found-eq1-clause-answer g c =
     let seat = c.args.seat.now in (
-      ap (λ (m : Me ℕ View). m.0) (c.compare_exchange-found.ensures.2 c.args.b.0 refl) ∙ moves.won_at seat.token.me.0 c.args.b.0 c.compare_exchange-found.result c.if-found-eq1.true,
+      ap (λ (m : Me ℕ View). m.0) ((c.compare_exchange-found.ensures.2 c.args.b.0 refl).0) ∙ moves.won_at seat.token.me.0 c.args.b.0 c.compare_exchange-found.result c.if-found-eq1.true,
       refl,
     )
 
 pub returns-else-found-eq1-clause-answer : goal.returns-else-found-eq1-clause-answer
 returns-else-found-eq1-clause-answer g c =
     let seat = c.args.seat.now in (
-      ap (λ (m : Me ℕ View). m.0) (c.compare_exchange-found.ensures.2 c.args.b.0 refl) ∙ moves.lost_at seat.token.me.0 c.args.b.0 c.compare_exchange-found.result c.if-found-eq1.false,
-      (c.requires.idle, c.if-found-eq1.false),
+      ap (λ (m : Me ℕ View). m.0) ((c.compare_exchange-found.ensures.2 c.args.b.0 refl).0) ∙ moves.lost_at seat.token.me.0 c.args.b.0 c.compare_exchange-found.result c.if-found-eq1.false,
+      (c.requires.idle, (c.if-found-eq1.false, (c.compare_exchange-found.ensures.2 c.args.b.0 refl).1)),
     )
