@@ -1,5 +1,5 @@
 -- A silent report: no check of the program finds anything.
-use Rattle.std.proofs.Common.{◌≡◌, ◌⊎◌, inl, inr, ℕ, zero, suc, ◌+◌, ◌<◌, Bool, true, false, ◌||◌, List, [], ◌∷◌, ◌++◌, length, map, Option, Some, None, refl, sym, ap, ◌∙◌, subst, arith, if◌then◌else◌}
+use Rattle.std.proofs.Common.{◌≡◌, ◌⊎◌, inl, inr, ℕ, zero, suc, ◌+◌, ◌<◌, Bool, true, false, cond, ◌||◌, List, [], ◌∷◌, ◌++◌, length, map, Option, Some, None, refl, sym, ap, ◌∙◌, subst, arith, if◌then◌else◌}
 use Rattle.std.specs.Prelude.{IsSomeAnd, IsTrue, slice_get}
 use Rattle.std.specs.List.{Contains}
 use Rattle.std.specs.Option.{option_to_list}
@@ -23,7 +23,7 @@ use Rattle.core_form.specs.declared.program.Var.{Var}
 use Rattle.flow_relations.specs.declared.equation.BodyRow.{BodyRow}
 use Rattle.flow_relations.specs.Flow.{Summary}
 use Rattle.flow_relations.specs.Told.{IsRow}
-use Rattle.flow_relations.specs.Equation.{code_at_body, code_of_body, equation, plain_flow, starts_unset}
+use Rattle.flow_relations.specs.Equation.{code_at_body, code_of_body, equation, opened, plain_flow, starts_unset, whole_at}
 use Rattle.first_path.specs.declared.source.Source.{Source}
 use Rattle.first_path.specs.declared.source.Variable.{Variable}
 use Rattle.first_lower.specs.Lowered.{IsLowered, elaboration, low_item, low_leaf, low_var, low_variables}
@@ -46,7 +46,7 @@ use Rattle.flow_driver.specs.GlobalCheck.{has}
 use Rattle.flow_driver.proofs.WithinGlobals.{found_leaf, read_listed, written_listed}
 use Rattle.run_laws.specs.Clean.{IsGlobalOf, IsListed, is_input, is_output}
 use Rattle.run_laws.specs.Laws.{HasCleanRuns, IsSilent, IsWithinGlobal}
-use Rattle.run_laws.specs.Unassigned.{AreElaborated, all, behind, opens, opens_behind, roots_of, sites, sites_of_rounds}
+use Rattle.run_laws.specs.Unassigned.{AreElaborated, all, behind, roots_of, sites, sites_of_rounds}
 use Rattle.run_laws.proofs.Calls.{clean_runs}
 use Rattle.run_laws.proofs.Names.{sound_body}
 use Rattle.run_laws.proofs.Rows.{library_below}
@@ -347,6 +347,19 @@ no_initial_sites p n (w ∷ ws) v x (inr (c, inl (t, inl r))) = r
 no_initial_sites p n (w ∷ ws) v x (inr (c, inl (t, inr r))) = r
 no_initial_sites p n (w ∷ ws) v x (inr (c, inr (d, i))) = no_initial_sites p (n + 1) ws _ x i
 
+no_initial_reads : (p : Program) (n : ℕ) (vs : List Variable) (x : ℕ) → (plain_flow p (low_variables n vs)).reads x → ⊥
+no_initial_reads p n [] x i = i
+no_initial_reads p n (w ∷ ws) x (inl i) = i
+no_initial_reads p n (w ∷ ws) x (inr (d, (y, (k, inl (inl i))))) = i
+no_initial_reads p n (w ∷ ws) x (inr (d, (y, (k, inl (inr i))))) = i
+no_initial_reads p n (w ∷ ws) x (inr (d, (y, (k, inr (e, (z, (l, i))))))) = no_initial_reads p (n + 1) ws z i
+
+-- where no leaf begins unassigned, none is cleared first
+opened_none : (unset : ℕ → Bool) → ((v : ℕ) → unset v ≡ false) → (n first : ℕ) (a : Code) → opened unset n first a ≡ a
+opened_none unset none zero first a = refl
+opened_none unset none (suc n) first a =
+    ap (λ b. cond b (Then (Clear first) (opened unset n (suc first) a)) (opened unset n (suc first) a)) (none first) ∙ opened_none unset none n (suc first) a
+
 module _ (p : Program) (fine : IsWellFormed p) (proper : IsProper p) (q : IsQuiet p) where
   body_at : (b : ℕ) (body : Body) → slice_get p.bodies b ≡ Some body → code_of_body p b ≡ code_of p.exprs p.stmts body.code
   body_at b body is = ap (code_at_body p) is
@@ -378,8 +391,8 @@ module _ (p : Program) (fine : IsWellFormed p) (proper : IsProper p) (q : IsQuie
 
       within : IsWithinGlobal p 2 (contract q.source)
       within = record {
-        reads = λ v l r. read v (library_below p v l) r;
-        writes = λ v l r. written v (library_below p v l) r;
+        reads = λ v out r. read v (library_below p v out.library) r;
+        writes = λ v out r. written v (library_below p v out.library) r;
       }
 
   own : (b : ℕ) (body : Body) → slice_get p.bodies b ≡ Some body → (x : ℕ) → sites all p (code_of_body p b) (λ v. IsTrue (starts_unset p b body.formals v)) x → ⊥
@@ -403,14 +416,19 @@ module _ (p : Program) (fine : IsWellFormed p) (proper : IsProper p) (q : IsQuie
           no_sites p body clears (code_of_body p b) code (sound_body p fine proper b).below (λ v. IsTrue (starts_unset p b body.formals v)) (λ v l t. unset v t) x i
       at (suc (suc (suc n))) e f = let z : Option Body = None in let y : z ≡ Some body = e in absurd (cc)
 
+  -- no leaf is cleared first, so the row of a body reads what its code reads
+  code_reads : (b x : ℕ) → (equation p b).reads x → (plain_flow p (code_of_body p b)).reads x
+  code_reads b x r = subst (λ a. (plain_flow p a).reads x) (body (slice_get p.bodies b)) r.1
+    where
+      body : (o : Option Body) → whole_at p b o ≡ code_at_body p o
+      body None = refl
+      body (Some y) = opened_none (starts_unset p b y.formals) (never_unset q.source p q.lowered b y.formals) (length p.leaves) 0 (code_of p.exprs p.stmts y.code)
+
   elaborations : AreElaborated p (roots_of p) all
   elaborations = subst (λ (o : List BodyNo). AreElaborated p (map (λ (b : BodyNo). b.0) o ++ map (λ (b : BodyNo). b.0) (option_to_list p.main)) all) (sym q.lowered.order)
       (subst (λ (m : Option BodyNo). AreElaborated p (0 ∷ 1 ∷ map (λ (b : BodyNo). b.0) (option_to_list m)) all) (sym q.lowered.main) (
-        λ x i. no_initial_sites p 0 q.source.spec.variables (opens p all) x (subst (λ a. sites all p a (opens p all) x) first_is i),
-        (
-          λ x i. let j : sites all p Skip (opens p (opens_behind p 0 all)) x = subst (λ a. sites all p a (opens p (opens_behind p 0 all)) x) second_is i in j,
-          tt,
-        ),
+        λ x r o. no_initial_reads p 0 q.source.spec.variables x (subst (λ a. (plain_flow p a).reads x) first_is (code_reads 0 x r)),
+        (λ x r o. let j : (plain_flow p Skip).reads x = subst (λ a. (plain_flow p a).reads x) second_is (code_reads 1 x r) in j, tt),
       ))
 
   pub is_silent : IsSilent p

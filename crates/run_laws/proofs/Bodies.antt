@@ -4,19 +4,20 @@ use Rattle.std.specs.Prelude.{IsTrue, slice_get, nat_eq}
 use Rattle.std.proofs.lemmas.List.{length-replicate}
 use Rattle.std.proofs.lemmas.Bool.{cases_eq, eqb-true}
 use Rattle.std.proofs.lemmas.Option.{slice_get-get_or, slice_get_within}
-use Rattle.core_form.specs.Code.{Expr, Exprs, At, Next, Code, Skip, Then, Assign, Clear, Branch, Repeat, Exit, Called, Guard, Delay, ReadClock, Stop}
+use Rattle.core_form.specs.Code.{Expr, Exprs, At, NoActual, Next, Code, Skip, Then, Assign, Clear, Branch, Repeat, Exit, Called, Guard, Delay, ReadClock, Stop}
+use Rattle.core_form.specs.Fine.{CodeIn}
 use Rattle.core_form.specs.Proper.{cells_of}
 use Rattle.core_form.specs.declared.contract.Contract.{Contract}
 use Rattle.core_form.specs.declared.program.Program.{Program}
 use Rattle.spark_base.specs.declared.numbers.Span.{Span}
 use Rattle.flow_relations.specs.Equation.{code_of_body, plain_flow}
 use Rattle.run_model.specs.Values.{CellNo, cells_from, cells_of_place, first_of, then_some, truth_in, value_of, written}
-use Rattle.run_model.specs.Machine.{Acted, Does, CheckFails, Effect, Frame, Remaining, Do, Again, act, bare, cells_seen, change_library, change_own, changes, goes_to, is_library, moved, push, resume, reads_by, sized, unless_failed, writes_by}
+use Rattle.run_model.specs.Machine.{Deed, Does, CheckFails, CallsBody, CallsGuarded, Effect, Frame, Remaining, Do, Again, deed, bare, cells_seen, change_library, change_own, changes, goes_to, is_library, moved, push, resume, reads_by, sized, unless_failed, unmarked, writes_by}
 use Rattle.run_model.specs.Runs.{IsAssigned, IsSized}
-use Rattle.run_laws.specs.Clean.{Allows, IsAmong, IsCleanStack, IsGlobalOf, IsListed, is_input, is_output}
+use Rattle.run_laws.specs.Clean.{Allows, IsAmong, IsGlobalOf, IsListed, IsOutside, is_input, is_output}
 use Rattle.run_laws.specs.Laws.{IsSilent}
 use Rattle.run_laws.specs.Unassigned.{all}
-use Rattle.run_laws.proofs.Cells.{among_left, among_or_not, among_parts, among_right, among_row, bare_behind, library_sized, own_sized, seen_here, seen_other}
+use Rattle.run_laws.proofs.Cells.{among_left, among_or_not, among_parts, among_right, among_row, bare_behind, unmarked_none, library_sized, own_sized, seen_here, seen_other}
 use Rattle.run_model.proofs.Lists.{seen_sized, written_length}
 use Rattle.run_laws.proofs.Names.{IsSound}
 use Rattle.run_laws.proofs.Rows.{reads_listed, writes_listed}
@@ -30,6 +31,17 @@ some_same d e h = cc
 not_failed : (o : Option Effect) (e : Effect) → unless_failed o ≡ Does e → o ≡ Some e
 not_failed None e h = let z : CheckFails ≡ Does e = h in absurd (cc)
 not_failed (Some d) e h = let z : Does d ≡ Does e = h in cc
+
+-- it calls
+abbrev pub IsCall : Deed → Type 0
+IsCall (Does e) = ⊥
+IsCall CheckFails = ⊥
+IsCall (CallsBody b actuals) = Unit {0}
+IsCall (CallsGuarded o barrier c) = Unit {0}
+
+no_call : (o : Option Effect) → IsCall (unless_failed o) → ⊥
+no_call None h = h
+no_call (Some e) h = h
 
 -- a leaf that the body may name has a cell that is not assigned
 abbrev pub Loose : Program → (ℕ → Type 0) → List (List (Option ℤ)) → List (List (Option ℤ)) → ℕ → Type 0
@@ -55,7 +67,7 @@ pub record Fits (p : Program) (names owed : ℕ → Type 0) (library : List (Lis
   pub noted : (leaf cell : ℕ) → IsAmong leaf cell f.note → IsTrue (is_library p leaf) → written_by p f.body leaf
 
 abbrev pub frame : ℕ → List Remaining → List (List (Option ℤ)) → List CellNo → Frame (List CellNo)
-frame b left own note = record { body = b; left = left; own = own; note = note }
+frame b left own note = record { body = b; left = left; own = own; actuals = NoActual; frees = None; note = note }
 
 -- a frame, when its next statement is done
 abbrev pub done : Program → List (List (Option ℤ)) → ℕ → List (List (Option ℤ)) → List CellNo → Effect → Frame (List CellNo)
@@ -210,14 +222,14 @@ module _ (p : Program) (names owed : ℕ → Type 0) (library own : List (List (
   }
 
   -- what a statement does keeps it
-  pub steps : (a : Code) (e : Effect) → Fits p names owed library (frame b (Do a ∷ k) own note) → act (cells_seen p library own) a k ≡ Does e → After a e
-  steps Skip e f h =
+  pub steps : (word : ℕ) (a : Code) (e : Effect) → Fits p names owed library (frame b (Do a ∷ k) own note) → deed (cells_seen p library own) word a k ≡ Does e → After a e
+  steps word Skip e f h =
       let is : record { left = k; change = None } ≡ e = cc in
       subst (After Skip) is (goes_on Skip k f refl (goes_push all none all names owed p Skip k (Loose p names library own) f.assigned) (goes_push none (read_by p b) (written_by p b) names all p Skip k (Unwritten p note) f.declared))
-  steps (Then a c) e f h =
+  steps word (Then a c) e f h =
       let is : record { left = push a (push c k); change = None } ≡ e = cc in
       subst (After (Then a c)) is (goes_on (Then a c) (push a (push c k)) f refl (goes_push all none all names owed p (Then a c) k (Loose p names library own) f.assigned) (goes_push none (read_by p b) (written_by p b) names all p (Then a c) k (Unwritten p note) f.declared))
-  steps (Assign (At leaf part whole count) x at) e f h =
+  steps word (Assign (At leaf part whole count) x at) e f h =
       let cells = cells_seen p library own in
       let to = At leaf part whole count in
       let v = comes (value_of cells x) (λ v. then_some (sized to v) (λ w. moved cells to w k)) e (not_failed _ e h) in
@@ -232,10 +244,10 @@ module _ (p : Program) (names owed : ℕ → Type 0) (library own : List (List (
           cases : (t : Bool) → nat_eq (length v) count ≡ t → cond t (Some v) None ≡ Some w → length w ≡ count
           cases true i j = let same : v ≡ w = cc in ap length (sym same) ∙ eqb-true (length v) count i
           cases false i j = let z : Option (List ℤ) = None in let y : z ≡ Some w = j in absurd (cc)
-  steps (Clear leaf) e f h =
+  steps word (Clear leaf) e f h =
       let is : record { left = k; change = Some (record { leaf = leaf; cells = bare (length (cells_seen p library own leaf)) }) } ≡ e = cc in
       subst (After (Clear leaf)) is (clears leaf f)
-  steps (Branch x a c) e f h =
+  steps word (Branch x a c) e f h =
       let cells = cells_seen p library own in
       let v = comes (value_of cells x) (λ v. then_some (truth_in v) (λ t. Some (goes_to (push (cond t a c) k)))) e (not_failed _ e h) in
       let t = comes (truth_in v.value) (λ t. Some (goes_to (push (cond t a c) k))) e v.then_is in
@@ -243,19 +255,19 @@ module _ (p : Program) (names owed : ℕ → Type 0) (library own : List (List (
       subst (After (Branch x a c)) is (goes_on (Branch x a c) (push (cond t.value a c) k) f refl
       (goes_branch all none all names owed p x a c k (Loose p names library own) t.value f.assigned)
       (goes_branch none (read_by p b) (written_by p b) names all p x a c k (Unwritten p note) t.value f.declared))
-  steps (Repeat a) e f h =
+  steps word (Repeat a) e f h =
       let is : record { left = push a (Again a ∷ k); change = None } ≡ e = cc in
       subst (After (Repeat a)) is (goes_on (Repeat a) (push a (Again a ∷ k)) f refl (goes_round all none all names owed p a k (Loose p names library own) f.assigned) (goes_round none (read_by p b) (written_by p b) names all p a k (Unwritten p note) f.declared))
-  steps (Exit o) e f h =
+  steps word (Exit o) e f h =
       let is : record { left = resume k o; change = None } ≡ e = cc in
       subst (After (Exit o)) is (goes_on (Exit o) (resume k o) f refl (goes_exit all none all names owed p o k (Loose p names library own) f.assigned) (goes_exit none (read_by p b) (written_by p b) names all p o k (Unwritten p note) f.declared))
-  steps (Called c actuals at) e f h = absurd f.assigned.0.below
-  steps (Guard o barrier c) e f h = absurd f.assigned.0.below
-  steps (Delay x) e f h = absurd f.assigned.0.below
-  steps (ReadClock to) e f h = absurd f.assigned.0.below
-  steps Stop e f h = let y : CheckFails ≡ Does e = h in absurd (cc)
+  steps word (Called c actuals at) e f h = absurd f.assigned.0.below
+  steps word (Guard o barrier c) e f h = absurd f.assigned.0.below
+  steps word (Delay x) e f h = absurd f.assigned.0.below
+  steps word (ReadClock to) e f h = absurd f.assigned.0.below
+  steps word Stop e f h = let y : CheckFails ≡ Does e = h in absurd (cc)
 
--- The next step is clean
+-- What the next statement touches is clean
 
 module _ (p : Program) (silent : IsSilent p) (names owed : ℕ → Type 0) (library : List (List (Option ℤ))) (sized_library : IsSized p library) (b : ℕ) (sound : IsSound p b (code_of_body p b)) (own : List (List (Option ℤ))) (note : List CellNo) where
   cell_is : (cells : List (Option ℤ)) (i : ℕ) → i < length cells → (slice_get cells i ≡ Some None → ⊥) → IsAssigned cells i
@@ -265,31 +277,54 @@ module _ (p : Program) (silent : IsSilent p) (names owed : ℕ → Type 0) (libr
       cases None e = absurd (n e)
       cases (Some v) e = (v, e)
 
-  reads_assigned : (a : Code) (k : List Remaining) → Fits p names owed library (frame b (Do a ∷ k) own note) → (leaf cell : ℕ) → IsAmong leaf cell (reads_by (cells_seen p library own) a) → IsAssigned (cells_seen p library own leaf) cell
+  reads_assigned : (a : Code) (k : List Remaining) → Fits p names owed library (frame b (Do a ∷ k) own note) → (leaf cell : ℕ) → IsAmong leaf cell (reads_by p (cells_seen p library own) a) → IsAssigned (cells_seen p library own leaf) cell
   reads_assigned a k f leaf cell h =
-      let named = named_of names (cells_seen p library own) a leaf cell f.assigned.0.named h in
-      let below = (named_of (Below p) (cells_seen p library own) a leaf cell f.assigned.0.below h).0 in
+      let named = named_of p names (cells_seen p library own) a leaf cell f.assigned.0.named h in
+      let below = (named_of p (Below p) (cells_seen p library own) a leaf cell f.assigned.0.below h).0 in
       cell_is (cells_seen p library own leaf) cell named.1
       (λ e. f.assigned.0.reads leaf below (site_of all p names (cells_seen p library own) a leaf cell f.assigned.0.named h (Loose p names library own) (named.0, (cell, e))))
 
-  allows : (a : Code) (k : List Remaining) → Fits p names owed library (frame b (Do a ∷ k) own note) → (c : Contract) → IsGlobalOf p b c
-      → Allows p c note (reads_by (cells_seen p library own) a) (writes_by (cells_seen p library own) a)
-  allows a k f c is = record {
-    outputs = λ leaf cell h l. writes_listed p silent b sound.below c is leaf l (f.declared.0.writes leaf l (write_of p (cells_seen p library own) a leaf cell h));
-    inputs = λ leaf cell h l. cases leaf cell h l (among_or_not leaf cell note);
+  allows : (a : Code) (k : List Remaining) → Fits p names owed library (frame b (Do a ∷ k) own note) → (writes : List CellNo)
+      → ((leaf cell : ℕ) → IsAmong leaf cell writes → IsAmong leaf cell (writes_by (cells_seen p library own) a))
+      → (c : Contract) → IsGlobalOf p b c → Allows p b c note (reads_by p (cells_seen p library own) a) writes
+  allows a k f writes some c is = record {
+    outputs = λ leaf cell out h. writes_listed p silent b sound.below c is leaf out (f.declared.0.writes leaf out.library (write_of p (cells_seen p library own) a leaf cell (some leaf cell h)));
+    inputs = λ leaf cell out h. cases leaf cell out h (among_or_not leaf cell note);
   }
     where
-      cases : (leaf cell : ℕ) → IsAmong leaf cell (reads_by (cells_seen p library own) a) → IsTrue (is_library p leaf) → IsAmong leaf cell note ⊎ (IsAmong leaf cell note → ⊥)
+      cases : (leaf cell : ℕ) → IsOutside p b leaf → IsAmong leaf cell (reads_by p (cells_seen p library own) a) → IsAmong leaf cell note ⊎ (IsAmong leaf cell note → ⊥)
           → IsListed p is_input c.globals leaf ⊎ (IsListed p is_output c.globals leaf × IsAmong leaf cell note)
-      cases leaf cell h l (inl i) = inr (writes_listed p silent b sound.below c is leaf l (f.noted leaf cell i l), i)
-      cases leaf cell h l (inr d) =
-          let named = named_of names (cells_seen p library own) a leaf cell f.declared.0.named h in
-          let below = (named_of (Below p) (cells_seen p library own) a leaf cell f.declared.0.below h).0 in
+      cases leaf cell out h (inl i) = inr (writes_listed p silent b sound.below c is leaf out (f.noted leaf cell i out.library), i)
+      cases leaf cell out h (inr d) =
+          let named = named_of p names (cells_seen p library own) a leaf cell f.declared.0.named h in
+          let below = (named_of p (Below p) (cells_seen p library own) a leaf cell f.declared.0.below h).0 in
           let seen = seen_sized p library own leaf sized_library f.own in
-          inl (reads_listed p silent b sound.below c is leaf l
-          (f.declared.0.reads leaf below (site_of none p names (cells_seen p library own) a leaf cell f.declared.0.named h (Unwritten p note) (l, (cell, (omega arith, d))))))
+          inl (reads_listed p silent b sound.below c is leaf out
+          (f.declared.0.reads leaf below (site_of none p names (cells_seen p library own) a leaf cell f.declared.0.named h (Unwritten p note) (out.library, (cell, (omega arith, d))))))
 
-  pub clean : (left : List Remaining) → Fits p names owed library (frame b left own note) → IsCleanStack p library (frame b left own note ∷ [])
-  clean [] f = (λ leaf cell h. absurd h, ((λ c is. record { outputs = λ leaf cell h l. absurd h; inputs = λ leaf cell h l. absurd h }), tt))
-  clean (Do a ∷ k) f = (reads_assigned a k f, (allows a k f, tt))
-  clean (Again a ∷ k) f = (λ leaf cell h. absurd h, ((λ c is. record { outputs = λ leaf cell h l. absurd h; inputs = λ leaf cell h l. absurd h }), tt))
+  -- what the next statement reads is assigned, and the Globals of the body allow what it touches
+  pub record IsCleanNext (a : Code) (writes : List CellNo) : Type 0 where
+    pub marked : unmarked (cells_seen p library own) (reads_by p (cells_seen p library own) a) ≡ []
+    pub allowed : (c : Contract) → IsGlobalOf p b c → Allows p b c note (reads_by p (cells_seen p library own) a) writes
+
+  pub clean : (a : Code) (k : List Remaining) → Fits p names owed library (frame b (Do a ∷ k) own note) → (writes : List CellNo)
+      → ((leaf cell : ℕ) → IsAmong leaf cell writes → IsAmong leaf cell (writes_by (cells_seen p library own) a)) → IsCleanNext a writes
+  clean a k f writes some = record {
+    marked = unmarked_none (cells_seen p library own) (reads_by p (cells_seen p library own) a) (λ leaf cell h. reads_assigned a k f leaf cell h);
+    allowed = allows a k f writes some;
+  }
+
+-- a plain statement does not call
+pub calls_none : (p : Program) (cells : ℕ → List (Option ℤ)) (word : ℕ) (a : Code) (k : List Remaining) → CodeIn (Below p) a → IsCall (deed cells word a k) → ⊥
+calls_none p cells word Skip k g h = h
+calls_none p cells word (Then a b) k g h = h
+calls_none p cells word (Assign to e at) k g h = no_call (then_some (value_of cells e) (λ v. then_some (sized to v) (λ w. moved cells to w k))) h
+calls_none p cells word (Clear leaf) k g h = h
+calls_none p cells word (Branch e a b) k g h = no_call (then_some (value_of cells e) (λ v. then_some (truth_in v) (λ t. Some (goes_to (push (cond t a b) k))))) h
+calls_none p cells word (Repeat a) k g h = h
+calls_none p cells word (Exit o) k g h = h
+calls_none p cells word (Called b actuals at) k g h = g
+calls_none p cells word (Guard o barrier b) k g h = g
+calls_none p cells word (Delay e) k g h = g
+calls_none p cells word (ReadClock to) k g h = g
+calls_none p cells word Stop k g h = h

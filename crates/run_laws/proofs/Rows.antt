@@ -1,5 +1,5 @@
 -- What the flow of a body's code says of library leaves, its row says too.
-use Rattle.std.proofs.Common.{◌≡◌, ◌≢◌, ◌⊎◌, inl, inr, ℕ, zero, suc, ◌<◌, ◌≤◌, Bool, true, false, cond, List, [], ◌∷◌, length, Option, Some, None, refl, sym, ap, ◌∙◌, subst, arith}
+use Rattle.std.proofs.Common.{◌≡◌, ◌≢◌, ◌⊎◌, inl, inr, ℕ, zero, suc, ◌<◌, ◌≤◌, Bool, true, false, cond, ◌&&◌, nat_eq, List, [], ◌∷◌, length, Option, Some, None, refl, sym, ap, ◌∙◌, subst, arith}
 use Rattle.std.specs.Prelude.{IsTrue, IsSomeAnd, slice_get}
 use Rattle.core_form.specs.Code.{At, Outcome, Next, Code, Skip, Then, Assign, Clear, Branch, Repeat, Exit, Called, Guard, Delay, ReadClock, Stop, code_of}
 use Rattle.core_form.specs.Fine.{CodeIn, home_of}
@@ -10,11 +10,11 @@ use Rattle.core_form.specs.declared.program.Home.{Home}
 use Rattle.core_form.specs.declared.program.Program.{Program}
 use Rattle.core_form.specs.declared.program.Leaf.{Leaf}
 use Rattle.core_form.specs.declared.program.Var.{Var}
-use Rattle.flow_relations.specs.Equation.{IsLibrary, clock_among, code_at_body, code_of_body, equation, is_unset, is_unset_leaf, is_unset_var, names_of, opened, plain_flow, starts_unset, whole_at, whole_code}
+use Rattle.flow_relations.specs.Equation.{IsLibrary, IsPassed, is_out, clock_among, code_at_body, code_of_body, equation, is_unset, is_unset_leaf, is_unset_var, names_of, opened, plain_flow, starts_unset, whole_at, whole_code}
 use Rattle.flow_relations.specs.Flow.{Flow, inside, unrolling}
 use Rattle.run_model.specs.Machine.{is_library, is_library_home}
-use Rattle.run_laws.specs.Clean.{IsGlobalOf, IsListed, is_input, is_output}
-use Rattle.run_laws.specs.Laws.{IsSilent}
+use Rattle.run_laws.specs.Clean.{IsGlobalOf, IsListed, IsOutside, is_input, is_output}
+use Rattle.run_laws.specs.Laws.{IsGiven, IsGivenBy, IsSilent}
 use Rattle.run_laws.proofs.Walks.{Below}
 
 -- Named leaves
@@ -187,10 +187,41 @@ module _ (p : Program) (b : ℕ) (body : Body) (is : slice_get p.bodies b ≡ So
       let flow = opened_writes p (starts_unset p b body.formals) x (library_set p b body.formals x library) below (length p.leaves) 0 (code_of p.exprs p.stmts body.code) (subst (λ a. (plain_flow p a).writes x) code_is h) in
       (inl (library_home p x library, writes_named p (Below p) (code_of_body p b) sound x h), subst (λ a. (plain_flow p a).writes x) (sym whole_is) flow)
 
+-- nor does a leaf that is given to the body begin unassigned: the row has what its code reads of it
+module _ (p : Program) (b : ℕ) (body : Body) (is : slice_get p.bodies b ≡ Some body) (sound : CodeIn (Below p) (code_of_body p b)) (x : ℕ) (below : Below p x) (given : IsGiven p b body x) where
+  given_home : IsSomeAnd (home_of p x) (IsPassed b) × (starts_unset p b body.formals x ≡ false)
+  given_home = leaf (slice_get p.leaves x) given
+    where
+      kind : (v : ℕ) (h : Home) → IsGivenBy b body v h → IsPassed b h × (is_unset b body.formals v h ≡ false)
+      kind v (Home.Package k) g = absurd g
+      kind v (Home.Local c) g = absurd g
+      kind v (Home.Formal c) g = (g.0, both (nat_eq c.0 b) (is_out body.formals v) g.1)
+        where
+          both : (s t : Bool) → t ≡ false → (s && t) ≡ false
+          both true t e = e
+          both false t e = refl
+      kind v (Home.Outcome c) g = absurd g
+      kind v (Home.Spare c) g = absurd g
+      kind v Home.Clock g = absurd g
+
+      var : (v : ℕ) (o : Option Var) → IsSomeAnd o (λ w. IsGivenBy b body v w.home) → IsSomeAnd (elim o [ None ↦ None | Some w ↦ Some w.home ]) (IsPassed b) × (is_unset_var b body.formals v o ≡ false)
+      var v None g = absurd g
+      var v (Some w) g = kind v w.home g
+
+      leaf : (o : Option Leaf) → IsSomeAnd o (λ l. IsSomeAnd (slice_get p.vars l.var.0) (λ w. IsGivenBy b body l.var.0 w.home))
+          → IsSomeAnd (elim o [ None ↦ None | Some l ↦ (elim (slice_get p.vars l.var.0) [ None ↦ None | Some w ↦ Some w.home ]) ]) (IsPassed b) × (is_unset_leaf p b body.formals o ≡ false)
+      leaf None g = absurd g
+      leaf (Some l) g = var l.var.0 (slice_get p.vars l.var.0) g
+
+  pub given_reads : (plain_flow p (code_of_body p b)).reads x → (equation p b).reads x
+  given_reads h =
+      let flow = opened_reads p (starts_unset p b body.formals) x given_home.1 below (length p.leaves) 0 (code_of p.exprs p.stmts body.code) (subst (λ a. (plain_flow p a).reads x) (ap (code_at_body p) is) h) in
+      (inr given_home.0, subst (λ a. (plain_flow p a).reads x) (sym (ap (whole_at p b) is)) flow)
+
 -- it is listed in a Global of the body
-module _ (p : Program) (silent : IsSilent p) (b : ℕ) (sound : CodeIn (Below p) (code_of_body p b)) (c : Contract) (is : IsGlobalOf p b c) (x : ℕ) (library : IsTrue (is_library p x)) where
+module _ (p : Program) (silent : IsSilent p) (b : ℕ) (sound : CodeIn (Below p) (code_of_body p b)) (c : Contract) (is : IsGlobalOf p b c) (x : ℕ) (out : IsOutside p b x) where
   pub reads_listed : (plain_flow p (code_of_body p b)).reads x → IsListed p is_input c.globals x
-  reads_listed h = (silent.globals b c is).reads x library (row_reads p b is.0 is.1 sound x library h)
+  reads_listed h = (silent.globals b c is).reads x out (row_reads p b is.0 is.1 sound x out.library h)
 
   pub writes_listed : (plain_flow p (code_of_body p b)).writes x → IsListed p is_output c.globals x
-  writes_listed h = (silent.globals b c is).writes x library (row_writes p b is.0 is.1 sound x library h)
+  writes_listed h = (silent.globals b c is).writes x out (row_writes p b is.0 is.1 sound x out.library h)

@@ -9,7 +9,7 @@ use Rattle.core_form.specs.declared.program.Program.{Program}
 use Rattle.flow_relations.specs.Equation.{plain_flow}
 use Rattle.flow_relations.specs.Flow.{Flow, IsExit, inside, unrolling}
 use Rattle.run_model.specs.Machine.{Remaining, Do, Again, is_library, push, resume}
-use Rattle.run_laws.specs.Unassigned.{behind, behind_flow, sites, sites_of_rounds}
+use Rattle.run_laws.specs.Unassigned.{behind, sites, sites_of_rounds}
 
 abbrev pub none : ℕ → Type 0
 none x = ⊥

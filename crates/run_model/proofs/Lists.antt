@@ -1,5 +1,5 @@
 -- Lists of cells, and of the statements that remain.
-use Rattle.std.proofs.Common.{◌≡◌, ℕ, zero, suc, ◌+◌, ◌-◌, ◌<◌, Bool, true, false, cond, List, [], ◌∷◌, ◌++◌, length, get_or, set, take, drop, Option, Some, None, refl, sym, ap, ◌∙◌, arith, add-one, length-append, ℤ}
+use Rattle.std.proofs.Common.{◌≡◌, ℕ, zero, suc, ◌+◌, ◌-◌, ◌<◌, Bool, true, false, cond, List, [], ◌∷◌, ◌++◌, length, get_or, set, take, drop, Option, Some, None, refl, sym, ap, ◌∙◌, arith, add-one, length-append, ℤ, pos}
 use Rattle.std.specs.Prelude.{slice_get, slice_index_or, IsSome, IsTrue, All}
 use Rattle.std.specs.Option.{option_to_list}
 use Rattle.core_form.proofs.Grown.{slice_get-last}
@@ -14,10 +14,12 @@ use Rattle.std.proofs.lemmas.List.Elements.{All-append}
 use Rattle.core_form.specs.Proper.{cells_of}
 use Rattle.core_form.specs.declared.program.Leaf.{Leaf}
 use Rattle.core_form.specs.declared.program.Program.{Program}
+use Rattle.core_form.specs.declared.program.Sharing.{Sharing}
+use Rattle.core_form.specs.declared.program.Var.{Var}
 use Rattle.run_model.specs.declared.state.Rest.{Rest}
 use Rattle.run_model.specs.declared.state.Rest.TheVariants as rest
 use Rattle.run_model.specs.Held.{AreRests, IsPlain, IsRest, do_of, held_left, held_rest, is_begun, left_after, rest_weight, size, weight, weight_of}
-use Rattle.run_model.specs.Machine.{Remaining, Do, Again, bare, bare_leaves, cells_seen, is_library, push, resume}
+use Rattle.run_model.specs.Machine.{Remaining, Do, Again, bare, bare_leaves, cells_seen, is_library, opening_cells, opening_leaf, opening_leaves, push, resume}
 use Rattle.run_model.specs.Runs.{IsSized}
 use Rattle.run_model.specs.Values.{number_in, numbers_from, written}
 
@@ -43,6 +45,28 @@ bare_length (l ∷ ls) (suc n) = bare_length ls n
 
 pub bare_sized : (p : Program) → IsSized p (bare_leaves p.leaves)
 bare_sized p = record { leaves = length-map p.leaves (λ (l : Leaf). bare l.cells); cells = λ n. bare_length p.leaves n }
+
+-- as they are before the first step
+opening_cells_length : (s : Sharing) (n : ℕ) → length (opening_cells s n) ≡ n
+opening_cells_length Sharing.Plain n = length-replicate n None
+opening_cells_length Sharing.Atomic n = length-replicate n None
+opening_cells_length (Sharing.Component o) n = length-replicate n None
+opening_cells_length Sharing.ClockTime n = length-replicate n (Some (pos 0))
+
+opening_leaf_length : (p : Program) (l : Leaf) → length (opening_leaf p l) ≡ l.cells
+opening_leaf_length p l = cases (slice_get p.vars l.var.0)
+  where
+    cases : (o : Option Var) → length {A = Option ℤ} (elim o [ None ↦ bare l.cells | Some v ↦ opening_cells v.sharing l.cells ]) ≡ l.cells
+    cases None = length-replicate l.cells None
+    cases (Some v) = opening_cells_length v.sharing l.cells
+
+opening_length : (p : Program) (leaves : List Leaf) (n : ℕ) → length (slice_index_or (opening_leaves p leaves) n []) ≡ elim (slice_get leaves n) [ None ↦ 0 | Some l ↦ l.cells ]
+opening_length p [] n = refl
+opening_length p (l ∷ ls) zero = opening_leaf_length p l
+opening_length p (l ∷ ls) (suc n) = opening_length p ls n
+
+pub opening_sized : (p : Program) → IsSized p (opening_leaves p p.leaves)
+opening_sized p = record { leaves = length-map p.leaves (opening_leaf p); cells = λ n. opening_length p p.leaves n }
 
 -- one more, before those that remain
 pub held_more : (p : Program) (rs : List Rest) (r : Rest) (k : List Remaining) → held_left p (rs ++ r ∷ []) k ≡ held_rest p r (held_left p rs k)

@@ -2,7 +2,7 @@
 use Rattle.std.specs.Prelude.{◌≡◌, ℕ, Bool, true, false, suc, ◌+◌, ◌-◌, ◌<◌, ◌≤◌, cond, All, List, [], ◌∷◌, map, drop, Option, Some, None, length, slice_get, ℤ}
 use Rattle.spark_base.specs.declared.numbers.BodyNo.{BodyNo}
 use Rattle.spark_base.specs.declared.numbers.StmtNo.{StmtNo}
-use Rattle.core_form.specs.Code.{Leaves, Returns, Code, Skip, Then, Assign, Clear, Branch, Repeat, Exit, Called, Guard, Delay, ReadClock, Stop, code_of}
+use Rattle.core_form.specs.Code.{NoActual, Leaves, Returns, Code, Skip, Then, Assign, Clear, Branch, Repeat, Exit, Called, Guard, Delay, ReadClock, Stop, code_of}
 use Rattle.core_form.specs.Proper.{cells_of}
 use Rattle.core_form.specs.declared.program.Program.{Program}
 use Rattle.run_model.specs.declared.state.Frame.{Frame as HeldFrame}
@@ -13,7 +13,8 @@ use Rattle.run_model.specs.declared.effects.Effect.{Effect as HeldEffect}
 use Rattle.run_model.specs.declared.effects.Effect.TheVariants as effect
 use Rattle.run_model.specs.declared.steps.Stepped.{Stepped as Answer}
 use Rattle.run_model.specs.declared.steps.Stepped.TheVariants as answer
-use Rattle.run_model.specs.Machine.{Remaining, Again, push, resume, Frame, State, Stepped, Moved, Blocked, Failed, Done, Environment, FrameStep, Ended, Fails, Goes, Acted, Does, CheckFails, goes_to, changes, plain_environment, plain_settle}
+use Rattle.run_model.specs.Machine.{Remaining, Again, push, resume, Frame, State, Stepped, Moved, Blocked, Failed, Done, Environment, Deed, Does, CheckFails, CallsBody, CallsGuarded, deed, statement_of, goes_to, changes, cells_seen, change_library, change_own}
+use Rattle.run_model.specs.Steps.{free_objects, plain_environment, plain_first, unnoted, with_left}
 use Rattle.run_model.specs.Runs.{IsSized}
 
 abbrev pub held_rest : Program → Rest → List Remaining → List Remaining
@@ -44,12 +45,16 @@ do_of (Some (rest.Again s)) = None
 abbrev pub next_do : List Rest → Option StmtNo
 next_do rs = do_of (slice_get rs (length rs - 1))
 
+-- nothing calls yet
+abbrev pub plain_frame_of : ℕ → List Remaining → List (List (Option ℤ)) → Frame (Unit {0})
+plain_frame_of b left own = record { body = b; left = left; own = own; actuals = NoActual; frees = None; note = tt }
+
 abbrev pub held_frame : Program → HeldFrame → Frame (Unit {0})
-held_frame p f = record { body = f.body.0; left = held_left p f.rest.items []; own = f.own.items; note = tt }
+held_frame p f = plain_frame_of f.body.0 (held_left p f.rest.items []) f.own.items
 
 -- the frames of a task
 abbrev pub held_frames : Program → HeldFrame → List (Frame (Unit {0}))
-held_frames p f = plain_settle p (held_frame p f ∷ [])
+held_frames p f = plain_first p (held_frame p f)
 
 -- the elaborations that have yet to begin
 abbrev pub held_coming : Program → HeldState → Option (List ℕ)
@@ -62,13 +67,14 @@ held_environment p s = plain_environment p (held_coming p s) (held_frames p s.en
 unfoldable pub held : Program → HeldState → State (Unit {0})
 held p s = record {
   cells = s.cells.items;
+  holder = free_objects p.objects;
   coming = (held_environment p s).coming;
   environment = (held_environment p s).frames;
   tasks = map (held_frames p) s.tasks.items;
 }
 
 -- what the code says of the effect of a statement
-abbrev pub effect_told : Program → Option HeldEffect → List Remaining → Acted
+abbrev pub effect_told : Program → Option HeldEffect → List Remaining → Deed
 effect_told p None k = CheckFails
 effect_told p (Some (effect.Chosen s)) k = Does (goes_to (push (code_of p.exprs p.stmts s) k))
 effect_told p (Some (effect.Round s)) k = Does (goes_to (push (code_of p.exprs p.stmts s) (Again (code_of p.exprs p.stmts s) ∷ k)))
@@ -166,9 +172,29 @@ Tells p old new answer.Blocked came = (came ≡ Blocked) × (held p new ≡ held
 Tells p old new answer.Failed came = (came ≡ Failed) × (held p new ≡ held p old)
 Tells p old new answer.Done came = (came ≡ Done) × (held p new ≡ held p old)
 
+-- What a step of one frame comes to: nothing remains, a check fails, it calls, or it goes on with these cells of the library
+pub data FrameStep : Type 0 where
+  Over : FrameStep
+  Stops : FrameStep
+  Calls : FrameStep
+  GoesOn : List (List (Option ℤ)) → Frame (Unit {0}) → FrameStep
+
+abbrev pub with_deed : Program → List (List (Option ℤ)) → Frame (Unit {0}) → Deed → FrameStep
+with_deed p library f CheckFails = Stops
+with_deed p library f (CallsBody b actuals) = Calls
+with_deed p library f (CallsGuarded o barrier c) = Calls
+with_deed p library f (Does e) = GoesOn (change_library p e.change library) (with_left (Unit {0}) p tt unnoted f e.left (change_own p e.change f.own))
+
+abbrev pub next_step : Program → List (List (Option ℤ)) → ℕ → Frame (Unit {0}) → List Remaining → FrameStep
+next_step p library word f [] = Over
+next_step p library word f (i ∷ k) = with_deed p library f (deed (cells_seen p library f.own) word (statement_of i) k)
+
+abbrev pub frame_step : Program → List (List (Option ℤ)) → ℕ → Frame (Unit {0}) → FrameStep
+frame_step p library word f = next_step p library word f f.left
+
 -- the answer of a step of one frame
-abbrev pub TellsFrame : Program → List (List (Option ℤ)) → HeldFrame → HeldFrame → List (List (Option ℤ)) → Answer → FrameStep (Unit {0}) → Type 0
-TellsFrame p library old new after answer.Moved came = came ≡ Goes after (held_frame p new)
+abbrev pub TellsFrame : Program → List (List (Option ℤ)) → HeldFrame → HeldFrame → List (List (Option ℤ)) → Answer → FrameStep → Type 0
+TellsFrame p library old new after answer.Moved came = came ≡ GoesOn after (held_frame p new)
 TellsFrame p library old new after answer.Blocked came = ⊥
-TellsFrame p library old new after answer.Failed came = (came ≡ Fails) × (after ≡ library) × (new ≡ old)
-TellsFrame p library old new after answer.Done came = (came ≡ Ended) × (after ≡ library) × (new ≡ old) × (old.rest.items ≡ [])
+TellsFrame p library old new after answer.Failed came = (came ≡ Stops) × (after ≡ library) × (new ≡ old)
+TellsFrame p library old new after answer.Done came = (came ≡ Over) × (after ≡ library) × (new ≡ old) × (old.rest.items ≡ [])

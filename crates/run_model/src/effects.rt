@@ -1,9 +1,9 @@
-ghost use Rattle.std.specs.Prelude.{◌≡◌, ◌<◌, List, length, IfOk};
+ghost use Rattle.std.specs.Prelude.{◌≡◌, ℕ, ◌<◌, List, length, IfOk};
 ghost use Rattle.spark_base.specs.declared.numbers.Span.{Span};
 ghost use Rattle.core_form.specs.Code.{Assign, code_of, expr_of, spot_at};
 ghost use Rattle.core_form.specs.Fine.{IsWellFormed, PlaceBelow};
 ghost use Rattle.run_model.specs.Held.{IsHeldEffect, IsPlain, effect_told};
-ghost use Rattle.run_model.specs.Machine.{Remaining, act, cells_seen};
+ghost use Rattle.run_model.specs.Machine.{Remaining, cells_seen, deed};
 ghost use Rattle.run_model.specs.Runs.{IsSized};
 
 use crate::cells::{bare, cells_seen, written};
@@ -42,8 +42,8 @@ fn move_effect(
     requires library { IsSized program.now library.now }
     requires own { IsSized program.now own.now }
     ensures held { IfOk result (IsHeldEffect program.now) }
-    ensures told { (at : Span) → IfOk result (λ e. (k : List Remaining) → effect_told program.now e k
-        ≡ act (cells_seen program.now library.now own.now) (Assign (spot_at (expr_of program.now.exprs) to.now) (expr_of program.now.exprs from) at) k) }
+    ensures told { (at : Span) → IfOk result (λ e. (word : ℕ) (k : List Remaining) → effect_told program.now e k
+        ≡ deed (cells_seen program.now library.now own.now) word (Assign (spot_at (expr_of program.now.exprs) to.now) (expr_of program.now.exprs from) at) k) }
 {
     let exprs = program.exprs.len() as u32;
     let Some(value) = value_of(alloc, program, library, own, from)? else {
@@ -73,8 +73,8 @@ pub fn effect_of(
     requires library { IsSized program.now library.now }
     requires own { IsSized program.now own.now }
     ensures held { IfOk result (IsHeldEffect program.now) }
-    ensures told { IfOk result (λ e. (k : List Remaining) → effect_told program.now e k
-        ≡ act (cells_seen program.now library.now own.now) (code_of program.now.exprs program.now.stmts s) k) }
+    ensures told { IfOk result (λ e. (word : ℕ) (k : List Remaining) → effect_told program.now e k
+        ≡ deed (cells_seen program.now library.now own.now) word (code_of program.now.exprs program.now.stmts s) k) }
 {
     match program.stmt(s) {
         CoreStmt::Move { to, from, .. } => move_effect(alloc, program, library, own, to, *from),

@@ -3,8 +3,8 @@ ghost use Rattle.std.specs.Vec.{vec_capacity, vec_len};
 ghost use Rattle.core_form.specs.Code.{Leaves, code_of, codes_at};
 ghost use Rattle.core_form.specs.Fine.{HasFineNodes, IsWellFormed};
 ghost use Rattle.core_form.specs.Proper.{cells_of};
-ghost use Rattle.run_model.specs.Held.{AreRests, AreStmts, IsHeldFrame, IsOpened, TellsFrame, held_frame, held_left, is_begun, left_after, next_do, rest_weight, weight};
-ghost use Rattle.run_model.specs.Machine.{Remaining, change_library, change_own, frame_step, push, resume};
+ghost use Rattle.run_model.specs.Held.{AreRests, AreStmts, IsHeldFrame, IsOpened, TellsFrame, frame_step, held_frame, held_left, is_begun, left_after, next_do, rest_weight, weight};
+ghost use Rattle.run_model.specs.Machine.{Remaining, change_library, change_own, push, resume};
 ghost use Rattle.run_model.specs.Runs.{IsSized};
 
 use crate::cells::is_library;
@@ -136,8 +136,8 @@ pub fn step_frame(
     ensures library { IsSized program.now library.new.items }
     ensures frame { IsHeldFrame program.now frame.new }
     ensures same { OnErr result ((library.new.items ≡ library.old.items) × (held_frame program.now frame.new ≡ held_frame program.now frame.old)) }
-    ensures step { IfOk result (λ came. TellsFrame program.now library.old.items frame.old frame.new library.new.items came
-        (frame_step program.now library.old.items (held_frame program.now frame.old))) }
+    ensures step { IfOk result (λ came. (word : ℕ) → TellsFrame program.now library.old.items frame.old frame.new library.new.items came
+        (frame_step program.now library.old.items word (held_frame program.now frame.old))) }
 {
     let Some(next) = frame.rest.last() else {
         return Ok(Stepped::Done);

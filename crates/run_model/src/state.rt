@@ -2,10 +2,10 @@ ghost use Rattle.std.specs.Prelude.{◌≡◌, ◌<◌, ◌≤◌, All, [], ◌�
 ghost use Rattle.core_form.specs.Fine.{IsWellFormed};
 ghost use Rattle.core_form.specs.declared.program.TaskUnit.{TaskUnit};
 ghost use Rattle.run_model.specs.Held.{IsHeld, IsHeldFrame, held, held_frame, held_frames};
-ghost use Rattle.run_model.specs.Machine.{plain_settle, plain_opening, plain_frame};
+ghost use Rattle.run_model.specs.Steps.{plain_first, plain_opening, plain_frame};
 ghost use Rattle.run_model.specs.Runs.{cell_in};
 
-use crate::cells::bare_leaves;
+use crate::cells::{bare_leaves, opening_leaves};
 use core_form::Program;
 use spark_base::{BodyNo, Items, LeafNo, NoMemory, StmtNo};
 use std::alloc::Global;
@@ -76,7 +76,7 @@ fn task_frames(alloc: Global, program: &Program) -> Result<Vec<Frame>, NoMemory>
     ensures held { IfOk result (λ fs. All (IsHeldFrame program.now) fs.items) }
     ensures count { IfOk result (λ fs. length fs.items ≡ length program.now.tasks) }
     ensures frames { IfOk result (λ fs. map (held_frames program.now) fs.items
-        ≡ map (λ (t : TaskUnit). plain_settle program.now (plain_frame program.now t.body.0 ∷ [])) program.now.tasks) }
+        ≡ map (λ (t : TaskUnit). plain_first program.now (plain_frame program.now t.body.0)) program.now.tasks) }
 {
     let mut frames = Vec::new(alloc);
     for task in program.tasks.as_slice() {
@@ -86,14 +86,14 @@ fn task_frames(alloc: Global, program: &Program) -> Result<Vec<Frame>, NoMemory>
 }
 
 impl State {
-    /// The state before the first elaboration: no cell is assigned.
+    /// The state before the first elaboration: no cell is assigned but those of the clock.
     pub fn new(alloc: Global, program: &Program) -> Result<State, NoMemory>
         requires fine { IsWellFormed program.now }
         ensures held { IfOk result (λ s. IsHeld program.now s) }
         ensures state { IfOk result (λ s. held program.now s ≡ plain_opening program.now) }
     {
         Ok(State {
-            cells: bare_leaves(alloc, program)?,
+            cells: opening_leaves(alloc, program)?,
             elaborating: true,
             next: 0,
             environment: no_frame(alloc, program)?,

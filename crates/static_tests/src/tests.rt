@@ -174,7 +174,7 @@ fn answer_of(alloc: Global, units: &Units, known: &Known, e: ExprNo) -> Result<A
 }
 
 /// What comes of the values of the constants of the name X, in order.
-fn answers(alloc: Global, source: Bytes) -> Result<Vec<Answer>, NoMemory> {
+pub fn answers(alloc: Global, source: Bytes) -> Result<Vec<Answer>, NoMemory> {
     let Ok(tokens) = lex(alloc, FileNo(0), source) else {
         return Err(NoMemory);
     };

@@ -5,7 +5,7 @@ use Rattle.spark_base.specs.declared.numbers.TypeNo.{TypeNo}
 use Rattle.ada_tree.specs.declared.units.Units.{Units}
 use Rattle.ada_forms.specs.Declarations.{Decl, decl_of}
 use Rattle.ada_forms.specs.Declarations as decls
-use Rattle.ada_forms.specs.Forms.{Expr, Identifier, Selected, Indication, Constrained, SubtypeRange}
+use Rattle.ada_forms.specs.Forms.{Expr, Identifier, Selected, Indication, Constrained, RangeAttribute, SubtypeRange, AttributeRange}
 use Rattle.static_eval.specs.declared.known.Known.{Known}
 use Rattle.static_eval.specs.Pairs.{told}
 use Rattle.types_objects.specs.declared.types.Types.{Types}
@@ -29,9 +29,31 @@ subtype_awaits types k (Indication e at mark) = mark_awaits types k mark
 subtype_awaits types k (Constrained e at mark low high) = mark_awaits types k mark
 subtype_awaits types k _ = None
 
-abbrev pub index_awaits : Types → Known → Expr → Option DeclNo
-index_awaits types k (SubtypeRange e at subtype) = subtype_awaits types k subtype
-index_awaits types k _ = None
+-- what the index of an array that is named waits for: of a type its number, of an object or a component its type
+abbrev pub array_awaits : Types → Known → DeclNo → Decl → Option DeclNo
+array_awaits types k d (decls.ArrayType a at name index element) = missing types (Some d)
+array_awaits types k d (decls.Subtype s at name subtype) = missing types (Some d)
+array_awaits types k d (decls.Object o at name is_constant subtype value) = subtype_awaits types k subtype
+array_awaits types k d (decls.Component c at name subtype preset) = subtype_awaits types k subtype
+array_awaits types k d _ = None
+
+abbrev pub denoted_awaits : Types → Units → Known → Option DeclNo → Option DeclNo
+denoted_awaits types u k None = None
+denoted_awaits types u k (Some d) = array_awaits types k d (decl_of u d)
+
+abbrev pub prefix_awaits : Types → Units → Known → Expr → Option DeclNo
+prefix_awaits types u k (Identifier e at name) = denoted_awaits types u k (told k.names e.0)
+prefix_awaits types u k (Selected e at name prefix) = denoted_awaits types u k (told k.names e.0)
+prefix_awaits types u k _ = None
+
+abbrev pub attribute_awaits : Types → Units → Known → Expr → Option DeclNo
+attribute_awaits types u k (RangeAttribute e at prefix arguments) = prefix_awaits types u k prefix
+attribute_awaits types u k _ = None
+
+abbrev pub index_awaits : Types → Units → Known → Expr → Option DeclNo
+index_awaits types u k (SubtypeRange e at subtype) = subtype_awaits types k subtype
+index_awaits types u k (AttributeRange e at attribute) = attribute_awaits types u k attribute
+index_awaits types u k _ = None
 
 abbrev pub or_next : Option DeclNo → Option DeclNo → Option DeclNo
 or_next None next = next
@@ -47,7 +69,7 @@ components_await types u k (d ∷ ds) = or_next (component_awaits types k (decl_
 
 -- the first declaration of those that a declaration is made of that has no type yet
 abbrev pub awaited_by : Types → Units → Known → Decl → Option DeclNo
-awaited_by types u k (decls.ArrayType d at name index element) = or_next (index_awaits types k index) (mark_awaits types k element)
+awaited_by types u k (decls.ArrayType d at name index element) = or_next (index_awaits types u k index) (mark_awaits types k element)
 awaited_by types u k (decls.RecordType d at name components) = components_await types u k components
 awaited_by types u k (decls.Subtype d at name subtype) = subtype_awaits types k subtype
 awaited_by types u k (decls.Object d at name is_constant subtype value) = subtype_awaits types k subtype

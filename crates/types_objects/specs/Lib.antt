@@ -10,3 +10,4 @@ pub mod Ranges
 pub mod Table
 pub mod Telling
 pub mod Types
+pub mod Views

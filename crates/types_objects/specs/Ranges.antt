@@ -1,10 +1,8 @@
--- The bounds of discrete types and subtypes, and what fits what.
-use Rattle.std.specs.Prelude.{ℕ, ◌-◌, Bool, true, false, nat_eq, Option, Some, None, pos, ◌-ℤ◌, length, slice_get}
+-- The bounds of discrete types and subtypes.
+use Rattle.std.specs.Prelude.{ℕ, ◌-◌, Bool, true, false, Option, Some, None, pos, ◌-ℤ◌, length, slice_get}
 use Rattle.spark_base.specs.declared.numbers.TypeNo.{TypeNo}
 use Rattle.static_eval.specs.declared.meanings.Range.{Range}
 use Rattle.types_objects.specs.declared.ranges.Limits.{Limits}
-use Rattle.types_objects.specs.declared.ranges.ValueType.{ValueType}
-use Rattle.types_objects.specs.declared.ranges.ValueType.TheVariants as values
 use Rattle.types_objects.specs.declared.types.TypeDef.{TypeDef}
 use Rattle.types_objects.specs.declared.types.TypeForm.{TypeForm}
 use Rattle.types_objects.specs.declared.types.TypeForm.TheVariants as forms
@@ -81,10 +79,3 @@ is_whole_in (Some x) = is_whole_form x.form
 -- whether the first type of a type is one of whole numbers
 abbrev pub is_integer : Types → TypeNo → Bool
 is_integer types t = is_whole_in (slice_get types.list (first_of types t).0)
-
--- types fit where their first types are the same; a number of any integer type fits each of these
-abbrev pub fits : Types → ValueType → ValueType → Bool
-fits types values.AnyInteger values.AnyInteger = true
-fits types values.AnyInteger (values.Of t) = is_integer types t
-fits types (values.Of t) values.AnyInteger = is_integer types t
-fits types (values.Of t) (values.Of u) = nat_eq (first_of types t).0 (first_of types u).0

@@ -43,11 +43,58 @@ fn subtype_awaits(types: &Types, units: &Units, known: &Known, e: ExprNo) -> Opt
     }
 }
 
+/// What the index of an array that is declared there waits for: of a type its number, of an object or a component its type.
+fn array_awaits(types: &Types, units: &Units, known: &Known, d: DeclNo) -> Option<DeclNo>
+    ensures { result ≡ spec.array_awaits types.now known.now d (decl_of units.now d) }
+{
+    match decl_form(units, d).form {
+        DeclForm::ArrayType { .. } => missing(types, Some(d)),
+        DeclForm::Subtype { .. } => missing(types, Some(d)),
+        DeclForm::Object { subtype, .. } => subtype_awaits(types, units, known, subtype),
+        DeclForm::Component { subtype, .. } => subtype_awaits(types, units, known, subtype),
+        _ => None,
+    }
+}
+
+fn denoted_awaits(
+    types: &Types,
+    units: &Units,
+    known: &Known,
+    denoted: Option<DeclNo>,
+) -> Option<DeclNo>
+    ensures { result ≡ spec.denoted_awaits types.now units.now known.now denoted }
+{
+    match denoted {
+        None => None,
+        Some(d) => array_awaits(types, units, known, d),
+    }
+}
+
+fn prefix_awaits(types: &Types, units: &Units, known: &Known, e: ExprNo) -> Option<DeclNo>
+    ensures { result ≡ spec.prefix_awaits types.now units.now known.now (expr_of units.now.exprs e) }
+{
+    match expr_form(units, e).form {
+        ExprForm::Identifier(_) => denoted_awaits(types, units, known, known.names.find(e.0)),
+        ExprForm::Selected { .. } => denoted_awaits(types, units, known, known.names.find(e.0)),
+        _ => None,
+    }
+}
+
+fn attribute_awaits(types: &Types, units: &Units, known: &Known, e: ExprNo) -> Option<DeclNo>
+    ensures { result ≡ spec.attribute_awaits types.now units.now known.now (expr_of units.now.exprs e) }
+{
+    match expr_form(units, e).form {
+        ExprForm::RangeAttribute { prefix, .. } => prefix_awaits(types, units, known, prefix),
+        _ => None,
+    }
+}
+
 fn index_awaits(types: &Types, units: &Units, known: &Known, e: ExprNo) -> Option<DeclNo>
-    ensures { result ≡ spec.index_awaits types.now known.now (expr_of units.now.exprs e) }
+    ensures { result ≡ spec.index_awaits types.now units.now known.now (expr_of units.now.exprs e) }
 {
     match expr_form(units, e).form {
         ExprForm::SubtypeRange { subtype } => subtype_awaits(types, units, known, subtype),
+        ExprForm::AttributeRange { attribute } => attribute_awaits(types, units, known, attribute),
         _ => None,
     }
 }

@@ -14,6 +14,7 @@ mod predefined;
 mod ranges;
 mod telling;
 mod types;
+mod views;
 
 pub use adding::{add_type, complete_type};
 pub use awaited::awaited_by;
@@ -24,6 +25,7 @@ pub use made::{Made, NewType};
 pub use marks::type_of_mark;
 pub use paths::leaf_paths;
 pub use predefined::{Predefined, predefined_name, real_time_name, standard_name};
-pub use ranges::{Limits, ValueType, fits, is_integer, range_of};
+pub use ranges::{Limits, is_integer, range_of};
 pub use telling::tell_type;
 pub use types::{FieldDef, TypeDef, TypeForm, Types, assignable};
+pub use views::{Sight, ValueType, fits, is_full};

@@ -1,4 +1,4 @@
-//! The bounds of discrete types and subtypes, and what fits what.
+//! The bounds of discrete types and subtypes.
 ghost use Rattle.std.specs.Prelude.{◌≡◌, ◌-◌, ◌^◌, ◌<◌, ◌≤◌, slice_get};
 ghost use Rattle.types_objects.specs.Ranges as spec;
 ghost use Rattle.types_objects.specs.Table.{IsTable};
@@ -14,13 +14,6 @@ use static_eval::Range;
 pub struct Limits {
     pub low: i128,
     pub high: i128,
-}
-
-/// The type of a value: a whole number that fits each integer type, or one of the table.
-#[derive(Clone, Copy, Debug, PartialEq, Eq)]
-pub enum ValueType {
-    AnyInteger,
-    Of(TypeNo),
 }
 
 /// The least and the greatest value of a type, if its form is discrete.
@@ -113,22 +106,6 @@ pub fn is_integer(types: &Types, t: TypeNo) -> bool
             TypeForm::Signed { .. } => true,
             TypeForm::Modular(_) => true,
             _ => false,
-        },
-    }
-}
-
-/// Whether a value of the one type can stand where one of the other is wanted.
-pub fn fits(types: &Types, to: ValueType, of: ValueType) -> bool
-    ensures { result ≡ spec.fits types.now to of }
-{
-    match to {
-        ValueType::AnyInteger => match of {
-            ValueType::AnyInteger => true,
-            ValueType::Of(t) => is_integer(types, t),
-        },
-        ValueType::Of(t) => match of {
-            ValueType::AnyInteger => is_integer(types, t),
-            ValueType::Of(u) => first_of(types, t).0 == first_of(types, u).0,
         },
     }
 }

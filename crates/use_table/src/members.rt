@@ -113,6 +113,17 @@ impl<T: Copy> UseTable<T> {
         }
     }
 
+    /// The declarations of a name in packages, in the order in which they came.
+    pub fn declared(&self, key: usize) -> &[Member<T>]
+        ensures { result.now ≡ get_or self.now.named key [] }
+    {
+        if key < self.named.len() {
+            self.named[key].as_slice()
+        } else {
+            &[]
+        }
+    }
+
     /// The count of the open use clauses. A region that opens now is ended by `close_uses` with it.
     pub fn open_uses(&self) -> usize
         ensures { result ≡ length self.now.uses }

@@ -43,5 +43,7 @@ fn a_package_that_two_clauses_name_counts_once(rt: HostRuntime) -> Result<(), Fa
     table.close_uses(1);
     assert_eq!(rt; table.find(0), Some(20));
     assert_eq!(rt; table.find(7), None);
+    assert_eq!(rt; table.declared(0).len(), 2);
+    assert_eq!(rt; table.declared(7).len(), 0);
     Ok(())
 }

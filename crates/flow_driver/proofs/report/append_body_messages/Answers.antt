@@ -5,7 +5,7 @@ use Rattle.core_form.specs.declared.contract.Contract.{Contract}
 use Rattle.core_form.specs.declared.program.Program.{Program}
 use Rattle.run_laws.proofs.Names.{All_got}
 use Rattle.flow_driver.specs.GlobalCheck.{global_messages}
-use Rattle.flow_driver.specs.Report.{AreBodyMessages, AreChecked, checked_contract}
+use Rattle.flow_driver.specs.Report.{AreBodyMessages, checked_contract}
 use Rattle.flow_driver.proofs.report.append_body_messages.Goals as goal
 
 -- the contract by which a body is checked is one of its two
@@ -27,13 +27,11 @@ pub returns-in_ok-append_global_messages-in-Some : goal.returns-in_ok-append_glo
 returns-in_ok-append_global_messages-in-Some c =
     let p = c.args.program.now in
     let body = c.args.body.now in
-    let k = c.in-Some.contract.now in
-    let row = c.in_ok-row-in-Some.row in
-    let is : Some k ≡ checked_contract body = c.in-Some.ensures in
-    let found = global_messages p row body k in
-    let checked : AreChecked p c.args.number.0 body k found = record { row = row; is_row = c.in_ok-row-in-Some.ensures.row; list_is = refl } in
+    let found = global_messages p c.in_ok-row-in-Some.row body c.in-Some.contract.now in
+    let checked : AreBodyMessages p c.args.number.0 body (Some c.in-Some.contract.now) found = record { row = c.in_ok-row-in-Some.row; is_row = c.in_ok-row-in-Some.ensures.row; list_is = refl } in
+    let is : Some c.in-Some.contract.now ≡ checked_contract body = c.in-Some.ensures in
     record {
       found = found;
-      are_found = subst (λ (o : Option Contract). AreBodyMessages p c.args.number.0 body o found) is checked;
+      are_found = subst (λ o. AreBodyMessages p c.args.number.0 body o found) is checked;
       grew = c.in_ok-append_global_messages-in-Some.ensures;
     }

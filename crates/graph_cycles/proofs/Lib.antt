@@ -1,0 +1,4 @@
+pub mod Following
+pub mod Walks
+pub mod Adding
+pub mod Searched

@@ -1,0 +1,11 @@
+//! The order in which the specs and bodies of packages are elaborated.
+#![tactic(auto)]
+
+mod elaboration;
+mod packages;
+mod rules;
+#[cfg(test)]
+mod tests;
+
+pub use elaboration::{Elaboration, elaborate};
+pub use packages::{Item, Package};

@@ -1,0 +1,4 @@
+pub mod Applications
+pub mod Attributes
+pub mod Contexts
+pub mod Entities

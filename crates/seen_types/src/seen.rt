@@ -1,0 +1,45 @@
+//! What types and subtypes are.
+use spark_base::{DeclNo, Items, TypeNo};
+use static_eval::Range;
+
+/// A component of a record: its declaration, the number of its name, from 0, and its type.
+#[derive(Clone, Copy, Debug)]
+pub struct FieldSeen {
+    pub decl: DeclNo,
+    pub key: usize,
+    pub of: TypeNo,
+}
+
+/// What a type is.
+#[derive(Debug, Drop)]
+pub enum Shape {
+    Enumeration(Range),
+    /// Signed or modular.
+    Integers(Range),
+    /// `Time` of Ada.Real_Time.
+    Moment,
+    /// `Time_Span` of Ada.Real_Time.
+    Duration,
+    Array { index: TypeNo, of: TypeNo },
+    Fields(Items<FieldSeen>),
+    /// A private type of the package of this number.
+    Private(usize),
+    /// A protected type or object of the unit of this number.
+    Protected(usize),
+    Task,
+}
+
+/// A type or a subtype: its first type, and what it is.
+#[derive(Debug, Drop)]
+pub struct Seen {
+    pub first: TypeNo,
+    pub shape: Shape,
+}
+
+/// The type of an expression.
+#[derive(Clone, Copy, Debug)]
+pub enum ExprType {
+    /// Whole numbers that fit each integer type.
+    AnyInteger,
+    Of(TypeNo),
+}
