@@ -1,7 +1,7 @@
 // What sources declare, and what of it is refused.
 use crate::refusals::{HEAD, REFUSED};
-use crate::text::shown;
 use crate::tables::DECLARED;
+use crate::text::shown;
 use crate::walk::{Walk, walked};
 use ada_lexer::lex;
 use ada_tree::Units;
