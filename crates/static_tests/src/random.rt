@@ -144,7 +144,8 @@ fn outcome(operator: usize, a: Option<i128>, b: Option<i128>) -> (Option<i128>, 
 
 fn moved(fault: Option<(Code, u32)>, by: usize) -> Option<(Code, u32)> {
     let (code, col) = fault?;
-    Some((code, col.saturating_add(by as u32)))
+    let by = u32::try_from(by).unwrap_or(u32::MAX);
+    Some((code, col.saturating_add(by)))
 }
 
 fn first_of(
