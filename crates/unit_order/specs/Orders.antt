@@ -63,7 +63,13 @@ text_of_name (Some e) = written e
 
 -- the refusal of a name in a with clause, at its first identifier, with the whole name
 abbrev pub refused_with : FileNo → Option Expr → Message
-refused_with file e = record { file = file; place = place_of_name e; code = codes.N01; text = not_visible_text (text_of_name e); kind = kinds.Refused }
+refused_with file e = record {
+  file = file;
+  place = place_of_name e;
+  code = codes.N01;
+  text = not_visible_text (text_of_name e);
+  kind = kinds.Refused;
+}
 
 abbrev pub unit_at : Units → ℕ → Option TheUnit
 unit_at u n = slice_get u.units n
