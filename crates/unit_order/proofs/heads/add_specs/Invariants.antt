@@ -1,0 +1,6 @@
+use Rattle.std.proofs.Common.{◌≡◌, take}
+use Rattle.unit_order.specs.Heads.{with_specs}
+use Rattle.unit_order.proofs.heads.add_specs.Given as goal
+
+abbrev pub invariant-loop-unit : goal.invariant-loop-unit
+invariant-loop-unit l = l.keys ≡ with_specs l.initial.keys (take l.unit-index l.units)
