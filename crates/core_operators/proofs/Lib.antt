@@ -1,2 +1,3 @@
 mod Equal
 pub mod Powers
+pub mod Products

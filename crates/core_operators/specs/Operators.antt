@@ -1,5 +1,5 @@
 -- What the operators of core expressions make of values. None: as a false check does, the operator fails.
-use Rattle.std.specs.Prelude.{ℕ, ◌+◌, ◌-◌, ◌*◌, ◌%◌, ◌^◌, Bool, true, false, cond, not, if◌then◌else◌, ◌&&◌, ◌||◌, List, [], ◌∷◌, Option, Some, None, ℤ, pos, negsuc, ◌+ℤ◌, ◌-ℤ◌, ◌*ℤ◌, neg_ℤ, int_le, int_lt, int_div, int_rem, nat_lt, unsigned_abs, ◌≤◌}
+use Rattle.std.specs.Prelude.{ℕ, ◌+◌, ◌-◌, ◌*◌, ◌%◌, ◌^◌, Bool, true, false, cond, not, if◌then◌else◌, ◌&&◌, ◌||◌, List, [], ◌∷◌, Option, Some, None, ℤ, pos, negsuc, ◌+ℤ◌, ◌-ℤ◌, ◌*ℤ◌, neg_ℤ, int_le, int_lt, int_div, int_rem, nat_lt, unsigned_abs, ◌<◌, ◌≤◌}
 use Rattle.std.specs.Ordering.{int_eq}
 use Rattle.std.specs.Int.{int_rem_euclid, int_pow, int_bit_and, int_bit_or, int_bit_xor, w128}
 use Rattle.core_form.specs.declared.code.CoreOp.{CoreOp}
@@ -76,14 +76,14 @@ one_of n m = then_some (truth n) (λ a. then_some (truth m) (λ b. Some (number_
 
 -- Classes within a modulus
 
--- what a modulus can be
+-- what a modulus can be, within 128 bits
 pub record IsModulus (m : ℕ) : Type 0 where
   pub low : 1 ≤ m
-  pub high : m ≤ 2 ^ 64
+  pub high : m < 2 ^ 127
 
--- no other number is one
+-- no number below 1 is one
 abbrev pub modulus : ℤ → Option ℕ
-modulus k = if int_le (pos 1) k && int_le k (pos (2 ^ 64)) then Some (unsigned_abs k) else None
+modulus k = if int_lt k (pos 1) then None else Some (unsigned_abs k)
 
 -- the number below the modulus of the class of a number
 abbrev pub reduced : ℤ → ℕ → ℕ

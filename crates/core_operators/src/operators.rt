@@ -173,7 +173,7 @@ fn equal(args: &[Items<i128>]) -> Option<i128>
 }
 
 /// What an operator makes of its operands. None where it takes another count of them, where it does not take their values, by a zero
-/// divisor, by a negative exponent, and by a result outside 128 bits. A modulus, the last operand, is a number from 1 to 2 ** 64.
+/// divisor, by a negative exponent, and by a result outside 128 bits. A modulus, the last operand, is 1 at least.
 pub fn operate(op: CoreOp, args: &[Items<i128>]) -> Option<i128>
     ensures { result ≡ specs.operate op args.now }
 {

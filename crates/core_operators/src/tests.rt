@@ -87,3 +87,16 @@ fn classes(rt: HostRuntime) -> Result<(), Fail> {
     assert!(rt; two(rt.alloc(), CoreOp::NotMod, 2, 8)? == Some(5));
     Ok(())
 }
+
+#[test]
+fn moduli_that_need_all_bits(rt: HostRuntime) -> Result<(), Fail> {
+    let m = HIGH;
+    assert!(rt; three(rt.alloc(), CoreOp::AddMod, m - 1, m - 1, m)? == Some(m - 2));
+    assert!(rt; three(rt.alloc(), CoreOp::SubMod, 0, m - 1, m)? == Some(1));
+    assert!(rt; three(rt.alloc(), CoreOp::MulMod, m - 1, m - 1, m)? == Some(1));
+    assert!(rt; three(rt.alloc(), CoreOp::MulMod, LOW, LOW, m)? == Some(1));
+    assert!(rt; three(rt.alloc(), CoreOp::PowMod, m - 1, m, m)? == Some(m - 1));
+    assert!(rt; three(rt.alloc(), CoreOp::MulMod, 5, 6, 1)? == Some(0));
+    assert!(rt; three(rt.alloc(), CoreOp::MulMod, 5, 6, -7)? == None);
+    Ok(())
+}
