@@ -1,0 +1,3 @@
+mod Equal
+pub mod Powers
+pub mod Products

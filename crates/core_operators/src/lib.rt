@@ -1,0 +1,13 @@
+//! What the operators of core expressions make of values: whole numbers of 128 bits, truth values, and classes of a modulus.
+#![tactic(auto)]
+
+mod classes;
+mod numbers;
+mod operators;
+mod truths;
+
+pub use operators::{Operands, operate, single};
+pub use truths::truth;
+
+#[cfg(test)]
+mod tests;
