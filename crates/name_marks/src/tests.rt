@@ -25,10 +25,10 @@ fn node(
     word: &[u8],
     prefix: Option<ExprNo>,
 ) -> Result<ExprNo, Fail> {
-    let number = units.exprs.len() as u32;
+    let number = u32::try_from(units.exprs.len()).unwrap_or(u32::MAX);
     let at = Pos {
         line: 1,
-        col: number + 1,
+        col: number.saturating_add(1),
     };
     let mut exprs = Items::new(alloc);
     if let Some(prefix) = prefix {
