@@ -11,15 +11,7 @@ fn two_packages(alloc: std::alloc::Global) -> Result<UseTable<u32>, Fail> {
         (1, 1, 21, false),
     ];
     for (home, key, shown, is_visible) in rows {
-        let _ = table.declare(
-            alloc,
-            home,
-            key,
-            Member {
-                shown,
-                is_visible,
-            },
-        )?;
+        let _ = table.declare(alloc, home, key, Member { shown, is_visible })?;
     }
     Ok(table)
 }
