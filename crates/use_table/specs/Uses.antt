@@ -1,5 +1,5 @@
 -- What use clauses make visible.
-use Rattle.std.specs.Prelude.{ℕ, ◌+◌, nat_eq, nat_lt, Bool, ◌&&◌, if◌then◌else◌, List, [], ◌∷◌, ◌++◌, map, filter, get_or, is_some, Option, Some, None}
+use Rattle.std.specs.Prelude.{ℕ, ◌+◌, nat_eq, nat_lt, Bool, ◌&&◌, if◌then◌else◌, List, [], ◌∷◌, ◌++◌, map, filter, get_or, Option, Some, None}
 use Rattle.std.specs.Map.{lookup}
 use Rattle.use_table.specs.declared.members.Member.{Member}
 

@@ -1,4 +1,4 @@
-use Rattle.std.proofs.Common.{◌≡◌, ◌+◌, ◌++◌, true, false, None, Some, slice_get, option_to_list, sym, ap, ◌∙◌}
+use Rattle.std.proofs.Common.{◌≡◌, ◌+◌, ◌++◌, None, Some, slice_get, option_to_list, sym, ap, ◌∙◌}
 use Rattle.use_table.specs.Uses.{shown_if, only}
 use Rattle.use_table.proofs.Shown.{left, left_more, two, first_one}
 use Rattle.use_table.proofs.members.only_shown.Goals as goal
