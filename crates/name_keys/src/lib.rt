@@ -1,8 +1,10 @@
-//! The numbers of names.
+//! The numbers of names, and what stands for them.
 #![tactic(auto)]
 
 mod keys;
+mod map;
 #[cfg(test)]
 mod tests;
 
 pub use keys::KeyTable;
+pub use map::KeyMap;

@@ -82,12 +82,11 @@ fn some_tables(alloc: Global) -> Result<Tables, Fail> {
         shown: shown(3, What::Other),
     })?;
     let mark = |decl: u32, t: TypeNo| Member {
-        home: 0,
         shown: shown(decl, What::Mark(Some(t))),
         is_visible: true,
     };
-    tables.members.declare(alloc, 1, mark(1, INTEGER))?;
-    tables.members.declare(alloc, 2, mark(2, TypeNo(0)))?;
+    let _ = tables.members.declare(alloc, 0, 1, mark(1, INTEGER))?;
+    let _ = tables.members.declare(alloc, 0, 2, mark(2, TypeNo(0)))?;
     Ok(tables)
 }
 

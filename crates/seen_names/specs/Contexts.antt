@@ -1,10 +1,10 @@
 -- The context of a place, and what a name denotes there.
-use Rattle.std.specs.Prelude.{ℕ, Bool, ◌&&◌, ◌||◌, if◌then◌else◌, nat_eq, nat_lt, List, [], find, get_or, position, Option, Some, None}
+use Rattle.std.specs.Prelude.{ℕ, Bool, ◌||◌, if◌then◌else◌, nat_lt, position, Option, Some, None}
 use Rattle.std.specs.Str.{bytes_eq}
 use Rattle.spark_base.specs.declared.name.Name.{Name}
 use Rattle.scope_table.specs.Scopes.{latest}
 use Rattle.use_table.specs.declared.members.Member.{Member}
-use Rattle.use_table.specs.Uses.{visible_by_use}
+use Rattle.use_table.specs.Uses.{Known, member_of, visible_by_use}
 use Rattle.seen_types.specs.Types.{Sight, is_number, sight}
 use Rattle.seen_names.specs.declared.context.Place.{Place}
 use Rattle.seen_names.specs.declared.context.Tables.{Tables}
@@ -44,22 +44,19 @@ visible_key tables (Some key) = or_used (inner_of (latest key tables.opens) (lat
 unfoldable pub visible : Tables → Name → Option Shown
 visible tables name = visible_key tables (key_of tables name)
 
-abbrev pub shown_by : Option (Member Shown) → Option Shown
-shown_by None = None
-shown_by (Some m) = Some m.shown
+-- a declaration that is visible, or is seen from within
+abbrev pub seen_by : Bool → Option (Member Shown) → Option Shown
+seen_by is_inside None = None
+seen_by is_inside (Some m) = if m.is_visible || is_inside then Some m.shown else None
 
--- the first of these that is of this home, and visible or seen from within
-abbrev pub is_seen : ℕ → Bool → Member Shown → Bool
-is_seen home is_inside m = nat_eq m.home home && (m.is_visible || is_inside)
-
-abbrev pub member_key : List (List (Member Shown)) → ℕ → Bool → Option ℕ → Option Shown
-member_key named home is_inside None = None
-member_key named home is_inside (Some key) = shown_by (find (is_seen home is_inside) (get_or named key []))
+abbrev pub member_key : Known Shown → ℕ → Bool → Option ℕ → Option Shown
+member_key known home is_inside None = None
+member_key known home is_inside (Some key) = seen_by is_inside (member_of known home key)
 
 -- what a name denotes behind a package and a point: in its own package the private part and the body are seen
 unfoldable pub member : Context → ℕ → Name → Option Shown
-member c home name = member_key c.tables.members.named home (is_number c.place.home home) (key_of c.tables name)
+member c home name = member_key c.tables.members home (is_number c.place.home home) (key_of c.tables name)
 
 -- the operation of a protected unit: private ones are seen in its body alone
 unfoldable pub operation : Context → ℕ → Name → Option Shown
-operation c unit name = member_key c.tables.operations.named unit (is_number c.place.unit unit) (key_of c.tables name)
+operation c unit name = member_key c.tables.operations unit (is_number c.place.unit unit) (key_of c.tables name)

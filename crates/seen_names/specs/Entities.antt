@@ -1,5 +1,6 @@
 -- What a name stands for, before it is taken as a value.
-use Rattle.std.specs.Prelude.{ℕ, Bool, true, false, not, ◌&&◌, if◌then◌else◌, nat_eq, List, find, slice_get, is_some, Option, Some, None}
+use Rattle.std.specs.Prelude.{ℕ, Bool, true, false, not, ◌&&◌, if◌then◌else◌, nat_eq, List, slice_get, is_some, Option, Some, None}
+use Rattle.std.specs.Map.{lookup}
 use Rattle.spark_base.specs.declared.name.Name.{Name}
 use Rattle.spark_base.specs.declared.numbers.TypeNo.{TypeNo}
 use Rattle.name_findings.specs.declared.findings.Mention.{Mention}
@@ -91,17 +92,14 @@ sure_as c t a = sure_in a && not (is_unfit (sight_at c) (type_in a) (Some (types
 
 -- Selections
 
-abbrev pub has_key : ℕ → FieldSeen → Bool
-has_key key f = nat_eq f.key key
-
 abbrev pub component : Valued → Option FieldSeen → Selection
 component v None = selections.NoComponent
 component v (Some f) = selections.Component v f
 
 -- the component of a name of this number
-abbrev pub component_in : Valued → Option ℕ → List FieldSeen → Selection
+abbrev pub component_in : Valued → Option ℕ → List (ℕ × FieldSeen) → Selection
 component_in v None fields = selections.NoComponent
-component_in v (Some key) fields = component v (find (has_key key) fields)
+component_in v (Some key) fields = component v (lookup (nat_eq key) fields)
 
 abbrev pub is_subprogram : What → Bool
 is_subprogram (whats.Subprogram n) = true

@@ -1,5 +1,5 @@
 //! The tables of what is declared, and what a name denotes by them.
-ghost use Rattle.std.specs.Prelude.{◌≡◌, find, slice_get};
+ghost use Rattle.std.specs.Prelude.{◌≡◌, slice_get};
 ghost use Rattle.std.specs.Option.{option_copied};
 ghost use Rattle.seen_names.specs.Contexts as spec;
 ghost use Rattle.seen_names.specs.Contexts.{context};
@@ -53,16 +53,19 @@ fn inner_of(declared: Option<Shown>, parameter: Option<Shown>) -> Option<Shown>
     }
 }
 
-/// The first of these that is of this home, and is visible or seen from within.
-fn seen_among(members: &[Member<Shown>], home: usize, is_inside: bool) -> Option<Shown>
-    ensures { result ≡ spec.shown_by (find (spec.is_seen home is_inside) members.now) }
+/// What is visible, or is seen from within.
+fn seen_by(member: Option<Member<Shown>>, is_inside: bool) -> Option<Shown>
+    ensures { result ≡ spec.seen_by is_inside member }
 {
-    match members
-        .iter()
-        .find(|m| m.home == home && (m.is_visible || is_inside))
-    {
+    match member {
         None => None,
-        Some(member) => Some(member.shown),
+        Some(member) => {
+            if member.is_visible || is_inside {
+                Some(member.shown)
+            } else {
+                None
+            }
+        }
     }
 }
 
@@ -73,11 +76,11 @@ fn member_by(
     is_inside: bool,
     key: Option<usize>,
 ) -> Option<Shown>
-    ensures { result ≡ spec.member_key members.now.named home is_inside key }
+    ensures { result ≡ spec.member_key members.now home is_inside key }
 {
     match key {
         None => None,
-        Some(key) => seen_among(members.declared(key), home, is_inside),
+        Some(key) => seen_by(members.member(home, key), is_inside),
     }
 }
 
@@ -111,7 +114,6 @@ impl Tables {
     }
 
     /// What a name denotes behind a package and a point: of its own package the private part and the body are seen too.
-    /// It goes over the packages that declare the name.
     #[tactic(auto, unfolding(crate::specs::Contexts::member))]
     pub fn member(&self, place: Place, home: usize, name: &Name) -> Option<Shown>
         ensures { result ≡ spec.member (context self.now place) home name.now }
@@ -124,8 +126,7 @@ impl Tables {
         )
     }
 
-    /// The operation of a protected unit: private ones are seen in its body alone. It goes over the units that have one of
-    /// this name.
+    /// The operation of a protected unit: private ones are seen in its body alone.
     #[tactic(auto, unfolding(crate::specs::Contexts::operation))]
     pub fn operation(&self, place: Place, unit: usize, name: &Name) -> Option<Shown>
         ensures { result ≡ spec.operation (context self.now place) unit name.now }

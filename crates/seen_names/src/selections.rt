@@ -1,5 +1,5 @@
 //! What stands behind a point.
-ghost use Rattle.std.specs.Prelude.{◌≡◌, find, Some, None};
+ghost use Rattle.std.specs.Prelude.{◌≡◌, Some, None};
 ghost use Rattle.seen_names.specs.Contexts.{context};
 ghost use Rattle.seen_names.specs.Entities as spec;
 
@@ -7,6 +7,7 @@ use crate::context::{Place, Tables};
 use crate::entities::{Entity, Valued, of_shown, of_what};
 use crate::shown::{Role, Shown, Value, What};
 use name_findings::Mention;
+use name_keys::KeyMap;
 use seen_types::{ExprType, FieldSeen, Shape};
 use spark_base::{Name, TypeNo};
 
@@ -48,13 +49,6 @@ fn an_operation(shown: Option<Shown>) -> Selection
     }
 }
 
-/// The first component of this number.
-fn field_of(fields: &[FieldSeen], key: usize) -> Option<FieldSeen>
-    ensures { result ≡ find (spec.has_key key) fields.now }
-{
-    fields.iter().copied().find(|f| f.key == key)
-}
-
 fn component(value: Valued, field: Option<FieldSeen>) -> Selection
     ensures { result ≡ spec.component value field }
 {
@@ -64,12 +58,12 @@ fn component(value: Valued, field: Option<FieldSeen>) -> Selection
     }
 }
 
-fn component_in(value: Valued, key: Option<usize>, fields: &[FieldSeen]) -> Selection
+fn component_in(value: Valued, key: Option<usize>, fields: &KeyMap<FieldSeen>) -> Selection
     ensures { result ≡ spec.component_in value key fields.now }
 {
     match key {
         None => Selection::NoComponent,
-        Some(key) => component(value, field_of(fields, key)),
+        Some(key) => component(value, fields.find(key)),
     }
 }
 
@@ -113,7 +107,7 @@ impl Tables {
         ensures { result ≡ spec.behind_shape (context self.now place) value name.now (Some shape.now) }
     {
         match shape {
-            Shape::Fields(fields) => component_in(value, self.key_of(name), fields.as_slice()),
+            Shape::Fields(fields) => component_in(value, self.key_of(name), fields),
             Shape::Protected(unit) => self.behind_object(place, value.role, *unit, name),
             _ => Selection::NoComponent,
         }
@@ -142,7 +136,7 @@ impl Tables {
     }
 
     /// What stands behind a point: behind a package its member, behind a record its component, behind a protected object its
-    /// operation. It goes over the components of the record.
+    /// operation.
     #[tactic(auto, unfolding(crate::specs::Entities::selection))]
     pub fn selection(&self, place: Place, name: &Name, prefix: Entity) -> Selection
         ensures { result ≡ spec.selection (context self.now place) name.now prefix }

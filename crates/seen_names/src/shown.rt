@@ -1,6 +1,7 @@
 //! What names denote.
+use name_keys::KeyMap;
 use seen_types::ExprType;
-use spark_base::{DeclNo, Items, TypeNo};
+use spark_base::{DeclNo, TypeNo};
 
 /// What is known of the value of a constant, a named number or a literal.
 #[derive(Clone, Copy, Debug)]
@@ -60,10 +61,9 @@ pub struct Shown {
     pub what: What,
 }
 
-/// A formal: the number of its name, whether it is `out` or `in out`, and its type if its mark has one.
+/// A formal: whether it is `out` or `in out`, and its type if its mark has one.
 #[derive(Clone, Copy, Debug)]
 pub struct FormalSeen {
-    pub key: usize,
     pub is_written: bool,
     pub of: Option<TypeNo>,
 }
@@ -72,6 +72,7 @@ pub struct FormalSeen {
 #[derive(Debug, Drop)]
 pub struct Callable {
     pub form: Subprogram,
-    pub formals: Items<FormalSeen>,
+    /// By the numbers of their names, in their order.
+    pub formals: KeyMap<FormalSeen>,
     pub result: Option<TypeNo>,
 }

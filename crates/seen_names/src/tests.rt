@@ -4,7 +4,7 @@ use crate::{
 };
 use ada_forms::Property;
 use name_findings::Mention;
-use name_keys::KeyTable;
+use name_keys::{KeyMap, KeyTable};
 use scope_table::{Open, ScopeTable};
 use seen_types::{BOOLEAN, ExprType, FieldSeen, INTEGER, Seen, Shape, TypeTable};
 use spark_base::{DeclNo, ExprNo, Items, Name, Pos, TypeNo};
@@ -46,12 +46,14 @@ fn empty_tables(alloc: Global) -> Result<Tables, Fail> {
         let _ = keys.add(key.as_bytes().to_vec(alloc)?)?;
     }
     let mut types = TypeTable::new(alloc);
-    let mut fields = Items::new(alloc);
-    fields.push(FieldSeen {
-        decl: DeclNo(7),
-        key: 1,
-        of: BOOLEAN,
-    })?;
+    let mut fields = KeyMap::new(alloc);
+    let _ = fields.add(
+        1,
+        FieldSeen {
+            decl: DeclNo(7),
+            of: BOOLEAN,
+        },
+    )?;
     let array = Shape::Array {
         index: BOOLEAN,
         of: INTEGER,
@@ -64,12 +66,12 @@ fn empty_tables(alloc: Global) -> Result<Tables, Fail> {
     let mut callables = Items::new(alloc);
     callables.push(Callable {
         form: Subprogram::Function,
-        formals: Items::new(alloc),
+        formals: KeyMap::new(alloc),
         result: Some(TypeNo(3)),
     })?;
     callables.push(Callable {
         form: Subprogram::Procedure,
-        formals: Items::new(alloc),
+        formals: KeyMap::new(alloc),
         result: None,
     })?;
     Ok(Tables {
@@ -105,15 +107,11 @@ fn the_inner_of_a_declaration_and_a_parameter_is_visible(rt: HostRuntime) -> Res
     let x = Name::new(alloc, b"X")?;
     let z = Name::new(alloc, b"Z")?;
     assert!(rt; tables.visible(&x).is_none());
-    tables.members.declare(
-        alloc,
-        0,
-        Member {
-            home: 5,
-            shown: object(9, 0, Role::Variable, 1),
-            is_visible: true,
-        },
-    )?;
+    let member = Member {
+        shown: object(9, 0, Role::Variable, 1),
+        is_visible: true,
+    };
+    let _ = tables.members.declare(alloc, 5, 0, member)?;
     tables.members.open_use(5)?;
     assert_eq!(rt; decl_of(tables.visible(&x)), Some(DeclNo(9)));
     tables.opens.declare(Open {
@@ -145,12 +143,11 @@ fn private_parts_are_seen_from_within(rt: HostRuntime) -> Result<(), Fail> {
         what: What::Subprogram(0),
     };
     let private = Member {
-        home: 0,
         shown,
         is_visible: false,
     };
-    tables.members.declare(alloc, 2, private)?;
-    tables.operations.declare(alloc, 2, private)?;
+    let _ = tables.members.declare(alloc, 0, 2, private)?;
+    let _ = tables.operations.declare(alloc, 0, 2, private)?;
     let inside = Place {
         home: Some(0),
         unit: Some(0),

@@ -1,12 +1,12 @@
 //! What types and subtypes are.
-use spark_base::{DeclNo, Items, TypeNo};
+use name_keys::KeyMap;
+use spark_base::{DeclNo, TypeNo};
 use static_eval::Range;
 
-/// A component of a record: its declaration, the number of its name, from 0, and its type.
+/// A component of a record: its declaration, and its type.
 #[derive(Clone, Copy, Debug)]
 pub struct FieldSeen {
     pub decl: DeclNo,
-    pub key: usize,
     pub of: TypeNo,
 }
 
@@ -21,7 +21,8 @@ pub enum Shape {
     /// `Time_Span` of Ada.Real_Time.
     Duration,
     Array { index: TypeNo, of: TypeNo },
-    Fields(Items<FieldSeen>),
+    /// A record: its components by the numbers of their names.
+    Fields(KeyMap<FieldSeen>),
     /// A private type of the package of this number.
     Private(usize),
     /// A protected type or object of the unit of this number.

@@ -1,7 +1,8 @@
 use crate::{BOOLEAN, DURATION, ExprType, INTEGER, MOMENT, Seen, Shape, TypeTable};
 use ada_forms::{BinaryOperator, UnaryOperator};
 use ada_tree::{AddingOperator, LogicalOperator, MultiplyingOperator, RelationalOperator};
-use spark_base::{Items, TypeNo};
+use name_keys::KeyMap;
+use spark_base::TypeNo;
 use static_eval::{Range, booleans, integers};
 use std::alloc::Global;
 use std::test::Fail;
@@ -45,7 +46,7 @@ fn some_types(alloc: Global) -> Result<TypeTable, Fail> {
     row(&mut types, MOMENT, Shape::Moment)?;
     row(&mut types, DURATION, Shape::Duration)?;
     row(&mut types, HANDLE, Shape::Private(3))?;
-    row(&mut types, HANDLE, Shape::Fields(Items::new(alloc)))?;
+    row(&mut types, HANDLE, Shape::Fields(KeyMap::new(alloc)))?;
     row(
         &mut types,
         BYTE,

@@ -1,15 +1,15 @@
-ghost use Rattle.std.specs.Prelude.{ℕ, ◌≡◌, [], ◌∷◌, ◌++◌, ◌<◌, ◌≤◌, ◌+◌, ◌-◌, Bool, List, length, take, get_or, map, filter, OnOk, OnErr};
-ghost use Rattle.use_table.specs.Uses.{Known, times, is_used, shows, visible_by_use, with_member, only};
+//! The declarations of packages, and the use clauses that are open.
+ghost use Rattle.std.specs.Prelude.{ℕ, ◌≡◌, [], ◌∷◌, ◌++◌, ◌<◌, ◌≤◌, ◌+◌, ◌-◌, Bool, List, if◌then◌else◌, not, is_some, length, take, get_or, map, filter, IfOk, OnOk, OnErr};
+ghost use Rattle.use_table.specs.Uses.{Known, times, is_used, member_of, shows, shown_if, shown_of, visible_by_use, with_member, only};
 
-use spark_base::{Items, NoMemory};
+use name_keys::KeyMap;
+use spark_base::NoMemory;
 use std::alloc::Global;
 use std::marker::Model;
 
-/// A declaration of a package: the number of the package, from 0, what a name denotes by it, and whether it stands in the
-/// visible part.
+/// A declaration of a package: what a name denotes by it, and whether it stands in the visible part.
 #[derive(Clone, Copy, Debug)]
 pub struct Member<T> {
-    pub home: usize,
     pub shown: T,
     pub is_visible: bool,
 }
@@ -22,7 +22,8 @@ pub struct Member<T> {
 /// clause that it ends.
 #[derive(Drop)]
 pub struct UseTable<T> {
-    named: Vec<Items<Member<T>>>,
+    /// By name, from the number of a package to what it declares.
+    named: Vec<KeyMap<Member<T>>>,
     uses: Vec<usize>,
     /// By package, how many of the use clauses name it.
     counts: Vec<usize>,
@@ -53,39 +54,58 @@ fn make_room(counts: &mut Vec<usize>, number: usize) -> Result<(), NoMemory>
 /// Has a place for a name.
 fn make_rows<T: Copy>(
     alloc: Global,
-    rows: &mut Vec<Items<Member<T>>>,
+    rows: &mut Vec<KeyMap<Member<T>>>,
     number: usize,
 ) -> Result<(), NoMemory>
     ensures same { (k : ℕ) → get_or rows.new.items k [] ≡ get_or rows.old.items k [] }
     ensures room { OnOk result (number < length rows.new.items) }
 {
     while rows.len() <= number {
-        rows.push(Items::new(alloc))?;
+        rows.push(KeyMap::new(alloc))?;
     }
     Ok(())
 }
 
+/// Whether a use clause makes a member of a package visible.
+fn shows<T: Copy>(counts: &[usize], home: usize, member: Member<T>) -> bool
+    ensures { (uses : List ℕ) → ((p : ℕ) → get_or counts.now p 0 ≡ times p uses) → result ≡ shows uses (home, member) }
+{
+    member.is_visible && home < counts.len() && counts[home] > 0
+}
+
+/// What a member shows, if a use clause makes it visible.
+fn shown_if<T: Copy>(counts: &[usize], member: Option<(usize, Member<T>)>) -> Option<T>
+    ensures { (uses : List ℕ) → ((p : ℕ) → get_or counts.now p 0 ≡ times p uses) → result ≡ shown_if uses member }
+{
+    match member {
+        None => None,
+        Some((home, member)) => {
+            if shows(counts, home, member) {
+                Some(member.shown)
+            } else {
+                None
+            }
+        }
+    }
+}
+
 /// What is the only one of these that a package shows that is used.
-fn only_shown<T: Copy>(members: &[Member<T>], counts: &[usize]) -> Option<T>
-    ensures { (uses : List ℕ) → ((p : ℕ) → get_or counts.now p 0 ≡ times p uses) → result ≡ only (map (λ m. m.shown) (filter (shows uses) members.now)) }
+fn only_shown<T: Copy>(members: &KeyMap<Member<T>>, counts: &[usize]) -> Option<T>
+    ensures { (uses : List ℕ) → ((p : ℕ) → get_or counts.now p 0 ≡ times p uses) → result ≡ only (map shown_of (filter (shows uses) members.now)) }
 {
     let mut found = None;
-    for member in members {
-        if shows(counts, *member) {
-            if found.is_some() {
-                return None;
+    for place in 0..members.len() {
+        match shown_if(counts, members.at(place)) {
+            None => (),
+            Some(shown) => {
+                if found.is_some() {
+                    return None;
+                }
+                found = Some(shown);
             }
-            found = Some(member.shown);
         }
     }
     found
-}
-
-/// Whether a use clause makes a member visible.
-fn shows<T: Copy>(counts: &[usize], member: Member<T>) -> bool
-    ensures { (uses : List ℕ) → ((p : ℕ) → get_or counts.now p 0 ≡ times p uses) → result ≡ shows uses member }
-{
-    member.is_visible && member.home < counts.len() && counts[member.home] > 0
 }
 
 impl<T: Copy> UseTable<T> {
@@ -107,20 +127,20 @@ impl<T: Copy> UseTable<T> {
         ensures { result ≡ visible_by_use self.now key }
     {
         if key < self.named.len() {
-            only_shown(self.named[key].as_slice(), self.counts.as_slice())
+            only_shown(&self.named[key], self.counts.as_slice())
         } else {
             None
         }
     }
 
-    /// The declarations of a name in packages, in the order in which they came.
-    pub fn declared(&self, key: usize) -> &[Member<T>]
-        ensures { result.now ≡ get_or self.now.named key [] }
+    /// What a package declares by a name, if it declares it.
+    pub fn member(&self, home: usize, key: usize) -> Option<Member<T>>
+        ensures { result ≡ member_of self.now home key }
     {
         if key < self.named.len() {
-            self.named[key].as_slice()
+            self.named[key].find(home)
         } else {
-            &[]
+            None
         }
     }
 
@@ -131,14 +151,21 @@ impl<T: Copy> UseTable<T> {
         self.uses.len()
     }
 
-    /// Declares a name in a package; for want of memory nothing is declared.
-    pub fn declare(&mut self, alloc: Global, key: usize, member: Member<T>) -> Result<(), NoMemory>
-        ensures ok { OnOk result ((k : ℕ) → get_or self.new.named k [] ≡ with_member key member k (get_or self.old.named k [])) }
+    /// Declares a name in a package, unless it declares it already: false says so. For want of memory nothing is declared.
+    pub fn declare(
+        &mut self,
+        alloc: Global,
+        home: usize,
+        key: usize,
+        member: Member<T>,
+    ) -> Result<bool, NoMemory>
+        ensures known { IfOk result (λ added. added ≡ not (is_some (member_of self.old home key))) }
+        ensures ok { IfOk result (λ added. (k : ℕ) → get_or self.new.named k [] ≡ (if added then with_member home key member k (get_or self.old.named k []) else get_or self.old.named k [])) }
         ensures err { OnErr result ((k : ℕ) → get_or self.new.named k [] ≡ get_or self.old.named k []) }
         ensures uses { self.new.uses ≡ self.old.uses }
     {
         make_rows(alloc, &mut self.named, key)?;
-        self.named[key].push(member)
+        self.named[key].add(home, member)
     }
 
     /// Opens a use clause that names a package; for want of memory the clauses stay as they were.
