@@ -1,7 +1,6 @@
 -- What the frames and the state of the code hold.
 use Rattle.std.proofs.Common.{◌≡◌, ℕ, suc, ◌+◌, ◌-◌, ◌<◌, ◌≤◌, Bool, true, false, cond, List, [], ◌∷◌, ◌++◌, length, get_or, set, map, take, drop, Option, Some, None, refl, sym, ap, subst, ◌∙◌, arith, ℤ, add-one}
 use Rattle.std.specs.Prelude.{slice_get, slice_index_or}
-use Rattle.std.specs.Option.{option_to_list}
 use Rattle.std.proofs.Common.{Vec}
 use Rattle.std.specs.declared.alloc.Global.{Global}
 use Rattle.spark_base.specs.declared.items.Items.{Items}
@@ -20,7 +19,7 @@ use Rattle.run_model.specs.declared.steps.Stepped.{Stepped as Answer}
 use Rattle.run_model.specs.declared.steps.Stepped.TheVariants as answer
 use Rattle.run_model.specs.Values.{CellNo}
 use Rattle.run_model.specs.Held.{IsOpened, IsPlain, do_of, next_do, FrameStep, Over, Stops, Calls, GoesOn, frame_step, next_step, with_deed, plain_frame_of, Tells, TellsFrame, held, held_coming, held_environment, held_frame, held_frames, held_left}
-use Rattle.run_model.specs.Machine.{Remaining, Do, Again, push, goes_to, opening_leaves, Change, reads_by, writes_by, statement_of, Effect, Frame, State, Stepped, Environment, Deed, Does, CheckFails, CallsBody, CallsGuarded, Moved, Blocked, Failed, Done, deed, cells_seen}
+use Rattle.run_model.specs.Machine.{Remaining, Do, Again, push, goes_to, opening_leaves, Change, reads_by, writes_by, statement_of, Frame, State, Stepped, Environment, Deed, Does, CheckFails, CallsBody, CallsGuarded, Moved, Blocked, Failed, Done, deed, cells_seen}
 use Rattle.run_model.specs.Steps.{act_at, acted, begun, came, done_by, free_objects, main_frames, next_body, put_frames, plain_step, plain_first, plain_environment, plain_opening, plain_frame, unnoted}
 use Rattle.std.specs.Vec.{with_item}
 use Rattle.std.proofs.Math.Seq.{map-set_same}

@@ -6,7 +6,7 @@ use Rattle.core_form.specs.declared.program.Home.{Home}
 use Rattle.core_form.specs.declared.program.ParamMode.{ParamMode}
 use Rattle.core_form.specs.declared.program.Program.{Program}
 use Rattle.core_form.specs.declared.program.Var.{Var}
-use Rattle.run_model.specs.Values.{CellNo, then_some, value_of, first_of, number_in, written, cells_from, cells_of_place, behind_value, reads_for_all}
+use Rattle.run_model.specs.Values.{CellNo, then_some, value_of, first_of, number_in, written, cells_from, behind_value, reads_for_all}
 use Rattle.run_model.specs.Machine.{Change, cells_seen, change_library, change_own, sized, unmarked}
 
 -- What an actual stands for
@@ -50,32 +50,41 @@ passing_of p b body n = elim (slice_get body.formals n) [
 ]
 
 abbrev pub passing : Program → ℕ → ℕ → Passing
-passing p b n = elim (slice_get p.bodies b) [ None ↦ record { leaves = []; into = false; back = false } | Some body ↦ passing_of p b body n ]
+passing p b n = elim (slice_get p.bodies b) [
+  | None ↦ record { leaves = []; into = false; back = false }
+  | Some body ↦ passing_of p b body n
+]
 
 -- Copying in
 
 -- a leaf gets a value of as many cells
 abbrev pub filled : List (List (Option ℤ)) → ℕ → List ℤ → Option (List (List (Option ℤ)))
-filled own leaf values = cond (nat_eq (length values) (length (slice_index_or own leaf []))) (Some (slice_set own leaf (map (λ n. Some n) values))) None
+filled own leaf values =
+    cond (nat_eq (length values) (length (slice_index_or own leaf []))) (Some (slice_set own leaf (map (λ n. Some n) values))) None
 
 -- each leaf gets its value
 abbrev pub filled_all : (ℕ → List (Option ℤ)) → List (List (Option ℤ)) → List ℕ → Exprs → Option (List (List (Option ℤ)))
 filled_all seen own [] Nothing = Some own
 filled_all seen own [] (And e es) = None
 filled_all seen own (leaf ∷ leaves) Nothing = None
-filled_all seen own (leaf ∷ leaves) (And e es) = then_some (value_of seen e) (λ v. then_some (filled own leaf v) (λ new. filled_all seen new leaves es))
+filled_all seen own (leaf ∷ leaves) (And e es) =
+    then_some (value_of seen e) (λ v. then_some (filled own leaf v) (λ new. filled_all seen new leaves es))
 
 -- the cells of a callee's own leaves, with the values of the actuals, which the caller sees so; none where a check fails
 abbrev pub copy_in : Program → (ℕ → List (Option ℤ)) → ℕ → List (List (Option ℤ)) → Actuals → Option (List (List (Option ℤ)))
 copy_in p seen b own NoActual = Some own
 copy_in p seen b own (AndActual n values spots at more) =
-    cond (passing p b n).into (then_some (filled_all seen own (passing p b n).leaves values) (λ new. copy_in p seen b new more)) (copy_in p seen b own more)
+    cond (passing p b n).into
+    (then_some (filled_all seen own (passing p b n).leaves values) (λ new. copy_in p seen b new more))
+    (copy_in p seen b own more)
 
 -- the cells that are read for it, up to the first check that fails
 abbrev pub reads_in : Program → (ℕ → List (Option ℤ)) → ℕ → List (List (Option ℤ)) → Actuals → List CellNo
 reads_in p seen b own NoActual = []
 reads_in p seen b own (AndActual n values spots at more) =
-    cond (passing p b n).into (reads_for_all seen values ++ behind_value (filled_all seen own (passing p b n).leaves values) (reads_in p seen b own more)) (reads_in p seen b own more)
+    cond (passing p b n).into
+    (reads_for_all seen values ++ behind_value (filled_all seen own (passing p b n).leaves values) (reads_in p seen b own more))
+    (reads_in p seen b own more)
 
 -- Copying back
 
@@ -118,7 +127,8 @@ changed_more p b c = record {
 abbrev pub copied_to : Program → Back → List CellNo → List CellNo → Spot → List ℤ → Option ℕ → Copied
 copied_to p b reads bare (At leaf part whole count) values None = Broken (touched_more b reads bare [])
 copied_to p b reads bare (At leaf part whole count) values (Some first) =
-    Whole (changed_more p (touched_more b reads bare (cells_from leaf first count)) (record { leaf = leaf; cells = written (seen_back p b leaf) first values }))
+    Whole (changed_more p (touched_more b reads bare (cells_from leaf first count))
+    (record { leaf = leaf; cells = written (seen_back p b leaf) first values }))
 
 -- where a place begins that takes so many values
 abbrev pub place_for : (ℕ → List (Option ℤ)) → Spot → List ℤ → Option ℕ
@@ -139,10 +149,13 @@ copy_leaf p callee leaf spot b =
 abbrev pub copy_leaves : Program → (ℕ → List (Option ℤ)) → List ℕ → Spots → Back → Copied
 copy_leaves p callee [] spots b = Whole b
 copy_leaves p callee (leaf ∷ leaves) NoSpot b = Whole b
-copy_leaves p callee (leaf ∷ leaves) (AndSpot spot spots) b = then_copied (copy_leaf p callee leaf spot b) (copy_leaves p callee leaves spots)
+copy_leaves p callee (leaf ∷ leaves) (AndSpot spot spots) b =
+    then_copied (copy_leaf p callee leaf spot b) (copy_leaves p callee leaves spots)
 
 -- actual by actual
 abbrev pub copy_back : Program → (ℕ → List (Option ℤ)) → ℕ → Actuals → Back → Copied
 copy_back p callee body NoActual b = Whole b
 copy_back p callee body (AndActual n values spots at more) b =
-    then_copied (cond (passing p body n).back (copy_leaves p callee (passing p body n).leaves spots b) (Whole b)) (copy_back p callee body more)
+    then_copied
+    (cond (passing p body n).back (copy_leaves p callee (passing p body n).leaves spots b) (Whole b))
+    (copy_back p callee body more)

@@ -183,7 +183,8 @@ abbrev pub with_deed : Program → List (List (Option ℤ)) → Frame (Unit {0})
 with_deed p library f CheckFails = Stops
 with_deed p library f (CallsBody b actuals) = Calls
 with_deed p library f (CallsGuarded o barrier c) = Calls
-with_deed p library f (Does e) = GoesOn (change_library p e.change library) (with_left (Unit {0}) p tt unnoted f e.left (change_own p e.change f.own))
+with_deed p library f (Does e) =
+    GoesOn (change_library p e.change library) (with_left (Unit {0}) p tt unnoted f e.left (change_own p e.change f.own))
 
 abbrev pub next_step : Program → List (List (Option ℤ)) → ℕ → Frame (Unit {0}) → List Remaining → FrameStep
 next_step p library word f [] = Over

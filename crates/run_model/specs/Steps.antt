@@ -7,7 +7,7 @@ use Rattle.core_form.specs.declared.program.Object.{Object}
 use Rattle.core_form.specs.declared.program.Program.{Program}
 use Rattle.core_form.specs.declared.program.TaskUnit.{TaskUnit}
 use Rattle.run_model.specs.Values.{CellNo, number_in, truth_in, cells_from}
-use Rattle.run_model.specs.Machine.{Remaining, push, Change, Effect, Deed, Does, CheckFails, CallsBody, CallsGuarded, deed, statement_of, reads_by, writes_by, unmarked, cells_seen, change_library, change_own, bare_leaves, opening_leaves, body_code, Frame, State, Environment, Stepped, Moved, Blocked, Failed, Done, Touch, Going, Acted, Goes, Waits, Fails}
+use Rattle.run_model.specs.Machine.{Remaining, push, Deed, Does, CheckFails, CallsBody, CallsGuarded, deed, statement_of, reads_by, writes_by, unmarked, cells_seen, change_library, change_own, bare_leaves, opening_leaves, body_code, Frame, State, Environment, Stepped, Moved, Blocked, Failed, Done, Touch, Acted, Goes, Waits, Fails}
 use Rattle.run_model.specs.Copies.{Back, Copied, Whole, Broken, copy_in, copy_back, reads_in}
 
 -- Objects
@@ -35,7 +35,8 @@ barrier_reads (Some leaf) = cells_from leaf.0 0 1
 module _ (N : Type 0) (p : Program) (blank : N) (noted : List CellNo → N → N) where
   -- a body that begins with these cells of its own leaves
   abbrev pub frame_with : ℕ → List (List (Option ℤ)) → Actuals → Option ℕ → Frame N
-  frame_with b own actuals frees = record { body = b; left = push (body_code p b) []; own = own; actuals = actuals; frees = frees; note = blank }
+  frame_with b own actuals frees =
+      record { body = b; left = push (body_code p b) []; own = own; actuals = actuals; frees = frees; note = blank }
 
   -- a body that nobody calls
   abbrev pub frame_of : ℕ → Frame N
@@ -75,7 +76,8 @@ module _ (N : Type 0) (p : Program) (blank : N) (noted : List CellNo → N → N
   abbrev pub settle : List (List (Option ℤ)) → List (Option ℕ) → Frame N → List (Frame N) → Acted N
   settle cells holder f [] = unless_ended f.left (stands cells (freed holder f.frees) []) (stands cells holder (f ∷ []))
   settle cells holder f (g ∷ gs) = unless_ended f.left
-      (backed g gs (copy_back p (λ leaf. slice_index_or f.own leaf []) f.body f.actuals (nothing_copied cells g.own)) (λ new caller. settle new (freed holder f.frees) caller gs))
+      (backed g gs (copy_back p (λ leaf. slice_index_or f.own leaf []) f.body f.actuals (nothing_copied cells g.own))
+      (λ new caller. settle new (freed holder f.frees) caller gs))
       (stands cells holder (f ∷ g ∷ gs))
 
   -- Statements: of the first frame f of a task t, above fs, for a word that the clock shows
@@ -91,7 +93,9 @@ module _ (N : Type 0) (p : Program) (blank : N) (noted : List CellNo → N → N
     abbrev pub calls : List CellNo → List (Option ℕ) → Option ℕ → ℕ → Actuals → List Remaining → Acted N
     calls reads held frees b actuals k = elim (copy_in p seen b (bare_leaves p.leaves) actuals) [
       | None ↦ Fails (touch (reads ++ reads_in p seen b (bare_leaves p.leaves) actuals) [] ∷ [])
-      | Some own ↦ with_touch (touch (reads ++ reads_in p seen b (bare_leaves p.leaves) actuals) []) (settle library held (frame_with b own actuals frees) (with_left f k f.own ∷ fs))
+      | Some own ↦
+          with_touch (touch (reads ++ reads_in p seen b (bare_leaves p.leaves) actuals) [])
+          (settle library held (frame_with b own actuals frees) (with_left f k f.own ∷ fs))
     ]
 
     -- the call of a guard, whose object the task then holds; nothing else stands there
@@ -117,10 +121,13 @@ module _ (N : Type 0) (p : Program) (blank : N) (noted : List CellNo → N → N
 
     -- what a statement comes to, which reads and writes this, before what remains behind it
     abbrev pub done_by : List CellNo → List CellNo → List Remaining → Deed → Acted N
-    done_by reads writes k (Does e) = with_touch (touch reads writes) (settle (change_library p e.change library) holder (with_left f e.left (change_own p e.change f.own)) fs)
+    done_by reads writes k (Does e) =
+        with_touch (touch reads writes)
+        (settle (change_library p e.change library) holder (with_left f e.left (change_own p e.change f.own)) fs)
     done_by reads writes k CheckFails = Fails (touch reads [] ∷ [])
     done_by reads writes k (CallsBody b actuals) = calls [] holder None b actuals k
-    done_by reads writes k (CallsGuarded o barrier c) = cond (is_free holder o) (enters o (barrier_reads barrier) c k (passes seen barrier)) (Waits [])
+    done_by reads writes k (CallsGuarded o barrier c) =
+        cond (is_free holder o) (enters o (barrier_reads barrier) c k (passes seen barrier)) (Waits [])
 
     abbrev pub act : Code → List Remaining → Acted N
     act a k = done_by (reads_by p seen a) (writes_by seen a) k (deed seen word a k)
@@ -177,7 +184,8 @@ module _ (N : Type 0) (p : Program) (blank : N) (noted : List CellNo → N → N
   abbrev pub noted_in : List CellNo → List (Frame N) → List (Frame N)
   noted_in writes [] = []
   noted_in writes (f ∷ fs) =
-      record { body = f.body; left = f.left; own = f.own; actuals = f.actuals; frees = f.frees; note = noted writes f.note } ∷ noted_in writes fs
+      record { body = f.body; left = f.left; own = f.own; actuals = f.actuals; frees = f.frees; note = noted writes f.note }
+      ∷ noted_in writes fs
 
   abbrev pub noted_of : List (Touch N) → List (Frame N) → List (Frame N)
   noted_of [] fs = fs

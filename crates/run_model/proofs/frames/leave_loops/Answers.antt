@@ -1,6 +1,5 @@
-use Rattle.std.proofs.Common.{◌≡◌, ◌++◌, ◌∷◌, [], length, ap, sym, ◌∙◌, arith}
+use Rattle.std.proofs.Common.{◌≡◌, ◌++◌, ◌∷◌, [], ap, sym, ◌∙◌}
 use Rattle.std.specs.Prelude.{IsTrue}
-use Rattle.std.specs.Option.{option_to_list}
 use Rattle.core_form.specs.Code.{Leaves}
 use Rattle.std.proofs.lemmas.List.Elements.{All-pop}
 use Rattle.run_model.specs.Held.{IsRest, held_left, is_begun}
