@@ -13,10 +13,10 @@ fn node(
     word: &[u8],
     parts: &[ExprNo],
 ) -> Result<ExprNo, Fail> {
-    let number = units.exprs.len() as u32;
+    let number = u32::try_from(units.exprs.len()).unwrap_or(u32::MAX);
     let at = Pos {
         line: 1,
-        col: number + 1,
+        col: number.saturating_add(1),
     };
     let mut exprs = Items::new(alloc);
     for part in parts {
