@@ -4,6 +4,7 @@ use Rattle.std.specs.Prelude.{◌≡◌, ℕ, ◌+◌, ◌^◌, ◌<◌, ◌≤�
 use Rattle.spark_base.specs.declared.numbers.ExprNo.{ExprNo}
 use Rattle.spark_base.specs.declared.numbers.StmtNo.{StmtNo}
 use Rattle.core_form.specs.declared.build.Nodes.{Nodes}
+use Rattle.core_form.specs.declared.code.Actual.{Actual}
 use Rattle.core_form.specs.declared.code.CoreExpr.{CoreExpr}
 use Rattle.core_form.specs.declared.code.CoreStmt.{CoreStmt}
 use Rattle.core_form.specs.declared.code.Place.{Place}
@@ -18,8 +19,9 @@ use Rattle.core_form.specs.declared.program.Program.{Program}
 use Rattle.core_form.specs.declared.program.Sharing.{Sharing}
 use Rattle.core_form.specs.declared.program.StateDef.{StateDef}
 use Rattle.core_form.specs.declared.program.Var.{Var}
+use Rattle.core_form.specs.Calls.{CallsIn}
 use Rattle.core_form.specs.Exits.{ExitsIn}
-use Rattle.core_form.specs.Code.{Expr, Exprs, Spot, Code, Constant, Load, Operation, Choice, Listed, Checked, Nothing, And, At, Skip, Then, Assign, Clear, Branch, Repeat, Exit, Called, Guard, Delay, ReadClock, Stop, code_of}
+use Rattle.core_form.specs.Code.{Expr, Exprs, Spot, Spots, NoSpot, AndSpot, Actuals, NoActual, AndActual, Code, Constant, Load, Operation, Choice, Listed, Checked, Nothing, And, At, Skip, Then, Assign, Clear, Branch, Repeat, Exit, Called, Guard, Delay, ReadClock, Stop, code_of}
 
 -- Nodes
 
@@ -41,6 +43,15 @@ IsFineExpr leaves e (CoreExpr.Choose test a b) = (test.0 < e) × (a.0 < e) × (b
 IsFineExpr leaves e (CoreExpr.Build parts) = ExprsBelow e parts
 IsFineExpr leaves e (CoreExpr.Within x low high) = x.0 < e
 
+-- what a call hands over for one formal: the values and places, and the leaves that they overlap
+pub record HasPartsBelow (leaves exprs : ℕ) (a : Actual) : Type 0 where
+  pub value : ExprsBelow exprs a.value
+  pub back : All (PlaceBelow leaves exprs) a.back
+  pub overlap : All (λ leaf. leaf.0 < leaves) a.overlap
+
+unfoldable pub ActualBelow : ℕ → ℕ → Actual → Type 0
+ActualBelow leaves exprs a = HasPartsBelow leaves exprs a
+
 -- a statement of a program of so many leaves and expressions; the forms that have no meaning yet are no part of a
 -- well-formed program
 abbrev pub IsFineStmt : ℕ → ℕ → ℕ → CoreStmt → Type 0
@@ -50,8 +61,8 @@ IsFineStmt leaves exprs s (CoreStmt.If test a b) = (test.0 < exprs) × (a.0 < s)
 IsFineStmt leaves exprs s (CoreStmt.Loop body) = body.0 < s
 IsFineStmt leaves exprs s (CoreStmt.Leave n) = Unit {0}
 IsFineStmt leaves exprs s CoreStmt.Back = Unit {0}
-IsFineStmt leaves exprs s (CoreStmt.Call callee actuals at) = ⊥
-IsFineStmt leaves exprs s (CoreStmt.Guarded object barrier call) = ⊥
+IsFineStmt leaves exprs s (CoreStmt.Call callee actuals at) = All (ActualBelow leaves exprs) actuals
+IsFineStmt leaves exprs s (CoreStmt.Guarded object barrier call) = IfSome barrier (λ leaf. leaf.0 < leaves) × (call.0 < s)
 IsFineStmt leaves exprs s (CoreStmt.DelayUntil e) = ⊥
 IsFineStmt leaves exprs s (CoreStmt.Clock to) = ⊥
 IsFineStmt leaves exprs s CoreStmt.Fail = Unit {0}
@@ -174,6 +185,14 @@ abbrev mutual
   pub SpotIn : (ℕ → Type 0) → Spot → Type 0
   SpotIn P (At leaf part whole cells) = P leaf × AllNamesIn P part
 
+abbrev pub SpotsIn : (ℕ → Type 0) → Spots → Type 0
+SpotsIn P NoSpot = Unit {0}
+SpotsIn P (AndSpot spot spots) = SpotIn P spot × SpotsIn P spots
+
+abbrev pub ActualsIn : (ℕ → Type 0) → Actuals → Type 0
+ActualsIn P NoActual = Unit {0}
+ActualsIn P (AndActual formal values spots at rest) = AllNamesIn P values × SpotsIn P spots × ActualsIn P rest
+
 abbrev pub CodeIn : (ℕ → Type 0) → Code → Type 0
 CodeIn P Skip = Unit {0}
 CodeIn P (Then a b) = CodeIn P a × CodeIn P b
@@ -182,8 +201,8 @@ CodeIn P (Clear leaf) = P leaf
 CodeIn P (Branch e a b) = NamesIn P e × CodeIn P a × CodeIn P b
 CodeIn P (Repeat a) = CodeIn P a
 CodeIn P (Exit o) = Unit {0}
-CodeIn P (Called b actuals at) = ⊥
-CodeIn P (Guard o barrier call) = ⊥
+CodeIn P (Called b actuals at) = ActualsIn P actuals
+CodeIn P (Guard o barrier call) = IfSome barrier (λ leaf. P leaf.0) × CodeIn P call
 CodeIn P (Delay e) = ⊥
 CodeIn P (ReadClock to) = ⊥
 CodeIn P Stop = Unit {0}
@@ -204,3 +223,4 @@ pub record IsWellFormed (p : Program) : Type 0 where
   pub constituents : All (IsFineConstituent p) p.constituents
   pub names : (b : ℕ) (body : Body) → slice_get p.bodies b ≡ Some body → CodeIn (IsSeenIn p b) (code_of p.exprs p.stmts body.code)
   pub exits : (b : ℕ) (body : Body) → slice_get p.bodies b ≡ Some body → ExitsIn 0 (code_of p.exprs p.stmts body.code)
+  pub calls : (b : ℕ) (body : Body) → slice_get p.bodies b ≡ Some body → CallsIn p (code_of p.exprs p.stmts body.code)

@@ -1,9 +1,9 @@
-ghost use Rattle.std.specs.Prelude.{◌≡◌, ℕ, ◌<◌, ◌≤◌, ◌↔◌, All, IsTrue, Some, length, slice_get};
-ghost use Rattle.core_form.specs.Code.{expr_of, exprs_at, spot_at, code_of, codes_at};
-ghost use Rattle.core_form.specs.Fine.{ExprsBelow, StmtsBelow, PlaceBelow, HasFineNodes, IsFineBody, IsHomeOf, IsSeenIn};
-ghost use Rattle.core_form.specs.Fine.{NamesIn, AllNamesIn, SpotIn, CodeIn};
+ghost use Rattle.std.specs.Prelude.{◌≡◌, ℕ, ◌<◌, ◌≤◌, ◌↔◌, All, IfSome, IsTrue, Some, length, slice_get};
+ghost use Rattle.core_form.specs.Code.{actuals_at, expr_of, exprs_at, spot_at, spots_at, code_of, codes_at};
+ghost use Rattle.core_form.specs.Fine.{ActualBelow, ExprsBelow, StmtsBelow, PlaceBelow, HasFineNodes, IsFineBody, IsHomeOf, IsSeenIn};
+ghost use Rattle.core_form.specs.Fine.{NamesIn, ActualsIn, AllNamesIn, SpotIn, SpotsIn, CodeIn};
 
-use crate::{CoreExpr, CoreStmt, Home, Place, Program};
+use crate::{Actual, CoreExpr, CoreStmt, Home, Place, Program};
 use spark_base::{ExprNo, LeafNo, StmtNo};
 
 fn is_home_of(body: usize, home: Home) -> bool
@@ -77,6 +77,53 @@ fn place_in(program: &Program, body: usize, place: &Place) -> bool
         && all_names_in(program, body, exprs, place.part.as_slice())
 }
 
+fn places_in(program: &Program, body: usize, list: &[Place]) -> bool
+    requires nodes { HasFineNodes program.now }
+    requires list { All (PlaceBelow (length program.now.leaves) (length program.now.exprs)) list.now }
+    ensures { IsTrue result ↔ SpotsIn (IsSeenIn program.now body) (spots_at (expr_of program.now.exprs) list.now) }
+{
+    for place in list {
+        if !place_in(program, body, place) {
+            return false;
+        }
+    }
+    true
+}
+
+#[tactic(auto, unfolding(crate::specs::Fine::ActualBelow))]
+fn actual_in(program: &Program, body: usize, actual: &Actual) -> bool
+    requires nodes { HasFineNodes program.now }
+    requires actual { ActualBelow (length program.now.leaves) (length program.now.exprs) actual.now }
+    ensures { IsTrue result ↔ (AllNamesIn (IsSeenIn program.now body) (exprs_at (expr_of program.now.exprs) actual.now.value)
+        × SpotsIn (IsSeenIn program.now body) (spots_at (expr_of program.now.exprs) actual.now.back)) }
+{
+    let exprs = program.exprs.len() as u32;
+    all_names_in(program, body, exprs, actual.value.as_slice())
+        && places_in(program, body, actual.back.as_slice())
+}
+
+fn actuals_in(program: &Program, body: usize, list: &[Actual]) -> bool
+    requires nodes { HasFineNodes program.now }
+    requires list { All (ActualBelow (length program.now.leaves) (length program.now.exprs)) list.now }
+    ensures { IsTrue result ↔ ActualsIn (IsSeenIn program.now body) (actuals_at (expr_of program.now.exprs) list.now) }
+{
+    for actual in list {
+        if !actual_in(program, body, actual) {
+            return false;
+        }
+    }
+    true
+}
+
+fn barrier_in(program: &Program, body: usize, barrier: Option<LeafNo>) -> bool
+    ensures { IsTrue result ↔ IfSome barrier (λ leaf. IsSeenIn program.now body leaf.0) }
+{
+    match barrier {
+        Some(leaf) => is_seen_in(program, body, leaf),
+        None => true,
+    }
+}
+
 #[cycle(code)]
 fn code_in(program: &Program, body: usize, s: StmtNo) -> bool
     requires nodes { HasFineNodes program.now }
@@ -96,10 +143,11 @@ fn code_in(program: &Program, body: usize, s: StmtNo) -> bool
         CoreStmt::Seq(stmts) => codes_in(program, body, s.0, stmts.as_slice()),
         CoreStmt::Loop(of) => code_in(program, body, *of),
         CoreStmt::Leave(_) | CoreStmt::Back | CoreStmt::Fail => true,
-        CoreStmt::Call { .. }
-        | CoreStmt::Guarded { .. }
-        | CoreStmt::DelayUntil(_)
-        | CoreStmt::Clock(_) => false,
+        CoreStmt::Call { actuals, .. } => actuals_in(program, body, actuals.as_slice()),
+        CoreStmt::Guarded { barrier, call, .. } => {
+            barrier_in(program, body, *barrier) && code_in(program, body, *call)
+        }
+        CoreStmt::DelayUntil(_) | CoreStmt::Clock(_) => false,
     }
 }
 

@@ -5,6 +5,7 @@ pub mod Levels
 pub mod Lines
 pub mod Listing
 pub mod Lowering
+pub mod Plain
 pub mod Proper
 pub mod Entries
 pub mod Seen

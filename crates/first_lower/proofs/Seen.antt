@@ -3,6 +3,7 @@ use Rattle.std.proofs.Common.{◌≡◌, ℕ, ◌+◌, ◌<◌, ◌≤◌, true,
 use Rattle.std.specs.Prelude.{unwrap_or}
 use Rattle.std.specs.List.{position_or_len}
 use Rattle.std.specs.Str.{bytes_eq}
+use Rattle.core_form.specs.Calls.{IsWithoutCalls}
 use Rattle.core_form.specs.Code.{Expr, Code, Then, Clear, Nothing}
 use Rattle.core_form.specs.Exits.{ExitsIn}
 use Rattle.core_form.specs.Fine.{NamesIn, CodeIn}
@@ -200,6 +201,31 @@ module _ (keys : List (List ℕ)) (p : Program) (body : Body) (scalar : (leaf : 
   variables_proper fresh n (v ∷ vs) l =
       let below : n < length keys = omega arith in
       (inr (fresh n below), ((writes n below, (right n below, tt), tt), variables_proper fresh (n + 1) vs (omega arith)))
+
+-- nothing is called
+module _ (keys : List (List ℕ)) where
+  chain_alone : (cs : List Code) → Each IsWithoutCalls cs → IsWithoutCalls (chain cs)
+  chain_alone [] h = tt
+  chain_alone (c ∷ cs) h = (h.0, chain_alone cs h.1)
+
+  mutual
+    codes_alone : (ss : Statements) → Each IsWithoutCalls (low_codes keys ss)
+    codes_alone (Last s) = statement_alone s
+    codes_alone (More s ss) = each_append IsWithoutCalls (low_statement keys s) (low_codes keys ss) (statement_alone s) (codes_alone ss)
+
+    statement_alone : (s : Statement) → Each IsWithoutCalls (low_statement keys s)
+    statement_alone Null = tt
+    statement_alone (Assign target value) = (tt, tt)
+    statement_alone (If test main) = ((chain_alone (low_codes keys main) (codes_alone main), tt), tt)
+    statement_alone (IfElse test main other) =
+        ((chain_alone (low_codes keys main) (codes_alone main), chain_alone (low_codes keys other) (codes_alone other)), tt)
+
+  pub statements_alone : (ss : Statements) → IsWithoutCalls (low_statements keys ss)
+  statements_alone ss = chain_alone (low_codes keys ss) (codes_alone ss)
+
+pub variables_alone : (n : ℕ) (vs : List Variable) → IsWithoutCalls (low_variables n vs)
+variables_alone n [] = tt
+variables_alone n (v ∷ vs) = (tt, (tt, variables_alone (n + 1) vs))
 
 -- there are no loops, and nothing leaves one
 module _ (keys : List (List ℕ)) where

@@ -5,6 +5,8 @@ use Rattle.std.specs.List.{flat_map}
 use Rattle.std.proofs.lemmas.List.Elements.{All-nil, All-cons, All-append, All-same}
 use Rattle.spark_base.specs.declared.numbers.BodyNo.{BodyNo}
 use Rattle.spark_base.specs.declared.numbers.StmtNo.{StmtNo}
+use Rattle.core_form.proofs.Alone.{calls_alone}
+use Rattle.core_form.specs.Calls.{HasNoCalls, IsWithoutCalls}
 use Rattle.core_form.specs.Code.{code_of}
 use Rattle.core_form.specs.Exits.{ExitsIn}
 use Rattle.core_form.specs.Fine.{AreFineNodes, CodeIn, HasFineNodes, IsSeenIn, IsFineBody, IsFineItem, IsFineVar, IsFineState, IsFinePartOf, IsFineConstituent, IsWellFormed, home_of}
@@ -32,7 +34,7 @@ use Rattle.first_lower.specs.Lowered.{each_from, elaboration, low_entry, low_glo
 use Rattle.first_lower.specs.declared.program.Roots.{Roots}
 use Rattle.first_lower.proofs.Entries.{All-slice_get, all_entries, length_entries, entry_here}
 use Rattle.first_lower.proofs.Lines.{ends_code}
-use Rattle.first_lower.proofs.Seen.{leaf_below, statements_exits, statements_in, statements_known, variables_exits, variables_in}
+use Rattle.first_lower.proofs.Seen.{leaf_below, statements_alone, statements_exits, statements_in, statements_known, variables_alone, variables_exits, variables_in}
 use Rattle.first_path.specs.Nested.{AreNested}
 
 all_none : {X : Type 0} (P : X → Type 0) (xs : List X) → xs ≡ [] → All P xs
@@ -162,6 +164,16 @@ module _ (s : Source) (keys : List (List ℕ)) (nodes : Nodes) (r : Roots) (p : 
       (rw (a.exprs, a.stmts, roots.body_code) tt)
       (rw (a.exprs, a.stmts, procedure_code nested) (statements_exits keys nested.statements))
 
+  alone : (nested : AreNested s.body.procedure.lines) → All (λ (body : Body). IsWithoutCalls (code_of p.exprs p.stmts body.code)) p.bodies
+  alone nested = three_bodies (λ (body : Body). IsWithoutCalls (code_of p.exprs p.stmts body.code))
+      (rw (a.exprs, a.stmts, roots.spec_code) (variables_alone 0 s.spec.variables))
+      (rw (a.exprs, a.stmts, roots.body_code) tt)
+      (rw (a.exprs, a.stmts, procedure_code nested) (statements_alone keys nested.statements))
+
+  -- no body calls another
+  pub no_calls : AreNested s.body.procedure.lines → HasNoCalls p
+  no_calls nested b body is = All-slice_get (λ (x : Body). IsWithoutCalls (code_of p.exprs p.stmts x.code)) p.bodies b body (alone nested) is
+
   fine_nodes : AreFineNodes nodes → nodes.leaves ≡ length keys → HasFineNodes p
   fine_nodes fine leaves =
       let e : length p.leaves ≡ nodes.leaves = length_leaves ∙ sym leaves in
@@ -185,4 +197,5 @@ module _ (s : Source) (keys : List (List ℕ)) (nodes : Nodes) (r : Roots) (p : 
     constituents = all_none (IsFineConstituent p) p.constituents a.constituents;
     names = λ b body is. All-slice_get (λ (x : Body). CodeIn (IsSeenIn p b) (code_of p.exprs p.stmts x.code)) p.bodies b body (names nested lines b) is;
     exits = λ b body is. All-slice_get (λ (x : Body). ExitsIn 0 (code_of p.exprs p.stmts x.code)) p.bodies b body (exits nested) is;
+    calls = λ b body is. calls_alone p (code_of p.exprs p.stmts body.code) (no_calls nested b body is);
   }

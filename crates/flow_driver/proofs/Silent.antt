@@ -7,7 +7,9 @@ use Rattle.std.proofs.lemmas.List.Folds.{list_any_at}
 use Rattle.spark_base.specs.declared.numbers.BodyNo.{BodyNo}
 use Rattle.spark_base.specs.declared.numbers.Span.{Span}
 use Rattle.core_form.specs.Code.{At, Outcome, Next, Code, Skip, Then, Assign, Clear, Branch, Repeat, Exit, Called, Guard, Delay, ReadClock, Stop, code_of}
-use Rattle.core_form.specs.Fine.{CodeIn, IsWellFormed, home_of}
+use Rattle.core_form.proofs.Alone.{NamesAlone}
+use Rattle.core_form.specs.Calls.{HasNoCalls, IsWithoutCalls}
+use Rattle.core_form.specs.Fine.{IsWellFormed, home_of}
 use Rattle.core_form.specs.Proper.{Declares, IsDeclared, IsProper, IsProperCode, IsProperList, IsProperMember, MayClear}
 use Rattle.core_form.specs.declared.contract.Contract.{Contract}
 use Rattle.core_form.specs.declared.contract.GlobalItem.{GlobalItem}
@@ -28,6 +30,7 @@ use Rattle.first_path.specs.declared.source.Source.{Source}
 use Rattle.first_path.specs.declared.source.Variable.{Variable}
 use Rattle.first_lower.specs.Lowered.{IsLowered, elaboration, low_item, low_leaf, low_var, low_variables}
 use Rattle.first_lower.proofs.Entries.{entry_here, entry_of, length_entries}
+use Rattle.first_lower.proofs.Plain.{lowered_plain}
 use Rattle.spark_messages.specs.declared.message_texts.UsedMode.{UsedMode}
 use Rattle.spark_messages.specs.declared.message_texts.UsedMode.TheVariants as used
 use Rattle.spark_messages.specs.declared.messages.Message.{Message}
@@ -265,57 +268,57 @@ module _ (p : Program) (body : Body) (clears : (x : ℕ) → MayClear (home_of p
   rounds_kept a h (suc n) o v w (inl k) = h o v w k.1
   rounds_kept a h (suc n) o v w (inr k) = h Next v k.0 k.1.0 ∙ rounds_kept a h n o k.0 w k.1.1
 
-  kept_same : (a : Code) → IsProperCode p body a → (o : Outcome) (v w : ℕ) → (plain_flow p a).kept o v w → v ≡ w
-  kept_same Skip h o v w k = k.1.1
-  kept_same (Then a b) h o v w (inl k) = kept_same a h.0 o v w k.1
-  kept_same (Then a b) h o v w (inr k) = kept_same a h.0 Next v k.0 k.1.0 ∙ kept_same b h.1 o k.0 w k.1.1
-  kept_same (Assign (At leaf part true count) e at) h o v w k = k.1.1
-  kept_same (Assign (At leaf part false count) e at) h o v w k = k.1.1
-  kept_same (Clear leaf) h o v w k = absurd (clears leaf h)
-  kept_same (Branch e a b) h o v w (inl k) = kept_same a h.1 o v w k
-  kept_same (Branch e a b) h o v w (inr k) = kept_same b h.2 o v w k
-  kept_same (Repeat a) h o v w k = rounds_kept a (kept_same a h) k.0 (inside o) v w k.1
-  kept_same (Exit u) h o v w k = k.1.1
-  kept_same (Called b actuals at) h o v w k = absurd h
-  kept_same (Guard u barrier b) h o v w k = absurd h
-  kept_same (Delay e) h o v w k = absurd h
-  kept_same (ReadClock to) h o v w k = absurd h
-  kept_same Stop h o v w k = absurd k
+  kept_same : (a : Code) → IsProperCode p body a → IsWithoutCalls a → (o : Outcome) (v w : ℕ) → (plain_flow p a).kept o v w → v ≡ w
+  kept_same Skip h n o v w k = k.1.1
+  kept_same (Then a b) h n o v w (inl k) = kept_same a h.0 n.0 o v w k.1
+  kept_same (Then a b) h n o v w (inr k) = kept_same a h.0 n.0 Next v k.0 k.1.0 ∙ kept_same b h.1 n.1 o k.0 w k.1.1
+  kept_same (Assign (At leaf part true count) e at) h n o v w k = k.1.1
+  kept_same (Assign (At leaf part false count) e at) h n o v w k = k.1.1
+  kept_same (Clear leaf) h n o v w k = absurd (clears leaf h)
+  kept_same (Branch e a b) h n o v w (inl k) = kept_same a h.1 n.0 o v w k
+  kept_same (Branch e a b) h n o v w (inr k) = kept_same b h.2 n.1 o v w k
+  kept_same (Repeat a) h n o v w k = rounds_kept a (kept_same a h n) k.0 (inside o) v w k.1
+  kept_same (Exit u) h n o v w k = k.1.1
+  kept_same (Called b actuals at) h n o v w k = absurd n
+  kept_same (Guard u barrier b) h n o v w k = absurd n
+  kept_same (Delay e) h n o v w k = absurd h
+  kept_same (ReadClock to) h n o v w k = absurd h
+  kept_same Stop h n o v w k = absurd k
 
   -- and has no site, where nothing is tracked
   abbrev IsUntracked : (ℕ → Type 0) → Type 0
   IsUntracked v = (x : ℕ) → Below p x → v x → ⊥
 
-  behind_untracked : (a : Code) → IsProperCode p body a → (v : ℕ → Type 0) → IsUntracked v → IsUntracked (behind all p a Next v)
-  behind_untracked a h v e y l (inl j) = let same : length p.leaves ≡ y = kept_same a h Next (length p.leaves) y j.0 in let less : y < length p.leaves = l in omega arith
-  behind_untracked a h v e y l (inr j) = e y l j.0
+  behind_untracked : (a : Code) → IsProperCode p body a → IsWithoutCalls a → (v : ℕ → Type 0) → IsUntracked v → IsUntracked (behind all p a Next v)
+  behind_untracked a h n v e y l (inl j) = let same : length p.leaves ≡ y = kept_same a h n Next (length p.leaves) y j.0 in let less : y < length p.leaves = l in omega arith
+  behind_untracked a h n v e y l (inr j) = e y l j.0
 
-  rounds_no_sites : (a : Code) → IsProperCode p body a → ((v : ℕ → Type 0) → IsUntracked v → (x : ℕ) → sites all p a v x → ⊥)
+  rounds_no_sites : (a : Code) → IsProperCode p body a → IsWithoutCalls a → ((v : ℕ → Type 0) → IsUntracked v → (x : ℕ) → sites all p a v x → ⊥)
       → (n : ℕ) (v : ℕ → Type 0) → IsUntracked v → (x : ℕ) → sites_of_rounds all p (plain_flow p a) (sites all p a) n v x → ⊥
-  rounds_no_sites a h g zero v e x i = i
-  rounds_no_sites a h g (suc n) v e x (inl i) = g v e x i
-  rounds_no_sites a h g (suc n) v e x (inr i) = rounds_no_sites a h g n (behind all p a Next v) (behind_untracked a h v e) x i.1
+  rounds_no_sites a h k g zero v e x i = i
+  rounds_no_sites a h k g (suc n) v e x (inl i) = g v e x i
+  rounds_no_sites a h k g (suc n) v e x (inr i) = rounds_no_sites a h k g n (behind all p a Next v) (behind_untracked a h k v e) x i.1
 
-  no_sites : (a : Code) → IsProperCode p body a → CodeIn (Below p) a → (v : ℕ → Type 0) → IsUntracked v → (x : ℕ) → sites all p a v x → ⊥
-  no_sites Skip h c v e x i = i
-  no_sites (Then a b) h c v e x (inl i) = no_sites a h.0 c.0 v e x i
-  no_sites (Then a b) h c v e x (inr i) = no_sites b h.1 c.1 (behind all p a Next v) (behind_untracked a h.0 v e) x i.1
-  no_sites (Assign (At leaf part whole count) k at) h c v e x i = cases i.1
+  no_sites : (a : Code) → IsProperCode p body a → IsWithoutCalls a → NamesAlone (Below p) a → (v : ℕ → Type 0) → IsUntracked v → (x : ℕ) → sites all p a v x → ⊥
+  no_sites Skip h n c v e x i = i
+  no_sites (Then a b) h n c v e x (inl i) = no_sites a h.0 n.0 c.0 v e x i
+  no_sites (Then a b) h n c v e x (inr i) = no_sites b h.1 n.1 c.1 (behind all p a Next v) (behind_untracked a h.0 n.0 v e) x i.1
+  no_sites (Assign (At leaf part whole count) k at) h n c v e x i = cases i.1
     where
       cases : reads_of k x ⊎ reads_of_all part x → ⊥
       cases (inl r) = e x (read_named (Below p) k x c.1 r) i.0
       cases (inr r) = e x (all_read_named (Below p) part x c.0.1 r) i.0
-  no_sites (Clear leaf) h c v e x i = i
-  no_sites (Branch k a b) h c v e x (inl i) = e x (read_named (Below p) k x c.0 i.1) i.0
-  no_sites (Branch k a b) h c v e x (inr (inl i)) = no_sites a h.1 c.1 v e x i
-  no_sites (Branch k a b) h c v e x (inr (inr i)) = no_sites b h.2 c.2 v e x i
-  no_sites (Repeat a) h c v e x i = rounds_no_sites a h (λ w f. no_sites a h c w f) i.0 v e x i.1
-  no_sites (Exit u) h c v e x i = i
-  no_sites (Called b actuals at) h c v e x i = absurd h
-  no_sites (Guard u barrier b) h c v e x i = absurd h
-  no_sites (Delay k) h c v e x i = absurd h
-  no_sites (ReadClock to) h c v e x i = absurd h
-  no_sites Stop h c v e x i = i
+  no_sites (Clear leaf) h n c v e x i = i
+  no_sites (Branch k a b) h n c v e x (inl i) = e x (read_named (Below p) k x c.0 i.1) i.0
+  no_sites (Branch k a b) h n c v e x (inr (inl i)) = no_sites a h.1 n.0 c.1 v e x i
+  no_sites (Branch k a b) h n c v e x (inr (inr i)) = no_sites b h.2 n.1 c.2 v e x i
+  no_sites (Repeat a) h n c v e x i = rounds_no_sites a h n (λ w f. no_sites a h n c w f) i.0 v e x i.1
+  no_sites (Exit u) h n c v e x i = i
+  no_sites (Called b actuals at) h n c v e x i = absurd n
+  no_sites (Guard u barrier b) h n c v e x i = absurd n
+  no_sites (Delay k) h n c v e x i = absurd h
+  no_sites (ReadClock to) h n c v e x i = absurd h
+  no_sites Stop h n c v e x i = i
 
   -- a body that declares no library leaf clears none in its own list either
   module _ (kind : body.kind ≡ kinds.Procedure) where
@@ -361,6 +364,9 @@ opened_none unset none (suc n) first a =
     ap (λ b. cond b (Then (Clear first) (opened unset n (suc first) a)) (opened unset n (suc first) a)) (none first) ∙ opened_none unset none n (suc first) a
 
 module _ (p : Program) (fine : IsWellFormed p) (proper : IsProper p) (q : IsQuiet p) where
+  plain : HasNoCalls p
+  plain = lowered_plain q.source p q.lowered
+
   body_at : (b : ℕ) (body : Body) → slice_get p.bodies b ≡ Some body → code_of_body p b ≡ code_of p.exprs p.stmts body.code
   body_at b body is = ap (code_at_body p) is
 
@@ -413,7 +419,7 @@ module _ (p : Program) (fine : IsWellFormed p) (proper : IsProper p) (q : IsQuie
       at (suc (suc zero)) e f =
           let k = procedure_is (procedure q.source q.lowered.third) (some_body _ _ e) refl in
           let code = list_code p body clears k (code_of_body p b) (subst (IsProperList p body) (sym (body_at b body is)) (proper.code b body is)) in
-          no_sites p body clears (code_of_body p b) code (sound_body p fine proper b).below (λ v. IsTrue (starts_unset p b body.formals v)) (λ v l t. unset v t) x i
+          no_sites p body clears (code_of_body p b) code (subst IsWithoutCalls (sym (body_at b body is)) (plain b body is)) (sound_body p fine proper plain b).below (λ v. IsTrue (starts_unset p b body.formals v)) (λ v l t. unset v t) x i
       at (suc (suc (suc n))) e f = let z : Option Body = None in let y : z ≡ Some body = e in absurd (cc)
 
   -- no leaf is cleared first, so the row of a body reads what its code reads
@@ -436,7 +442,7 @@ module _ (p : Program) (fine : IsWellFormed p) (proper : IsProper p) (q : IsQuie
 
 -- where the report is silent, the runs of the program are clean
 pub silent_runs : (bytes : List ℕ) (r : Report) (p : Program) → HasReport bytes r → verdict r ≡ 0 → IsProgramOf bytes p → HasCleanRuns p
-silent_runs bytes r p h v k = clean_runs p k.fine k.proper (is_silent p k.fine k.proper (quiet bytes r p h v k))
+silent_runs bytes r p h v k = clean_runs p k.fine k.proper (lowered_plain k.source p k.lowered) (is_silent p k.fine k.proper (quiet bytes r p h v k))
 
 -- sources whose report has no error have clean runs
 pub clean_sources : (sources : List (List ℕ)) (r : Report) → IsReport sources r → verdict r ≡ 0 → HaveCleanRuns sources

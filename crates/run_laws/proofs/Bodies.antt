@@ -5,7 +5,7 @@ use Rattle.std.proofs.lemmas.List.{length-replicate}
 use Rattle.std.proofs.lemmas.Bool.{cases_eq, eqb-true}
 use Rattle.std.proofs.lemmas.Option.{slice_get-get_or, slice_get_within}
 use Rattle.core_form.specs.Code.{Expr, Exprs, At, NoActual, Next, Code, Skip, Then, Assign, Clear, Branch, Repeat, Exit, Called, Guard, Delay, ReadClock, Stop}
-use Rattle.core_form.specs.Fine.{CodeIn}
+use Rattle.core_form.proofs.Alone.{NamesAlone}
 use Rattle.core_form.specs.Proper.{cells_of}
 use Rattle.core_form.specs.declared.contract.Contract.{Contract}
 use Rattle.core_form.specs.declared.program.Program.{Program}
@@ -315,7 +315,7 @@ module _ (p : Program) (silent : IsSilent p) (names owed : ℕ → Type 0) (libr
   }
 
 -- a plain statement does not call
-pub calls_none : (p : Program) (cells : ℕ → List (Option ℤ)) (word : ℕ) (a : Code) (k : List Remaining) → CodeIn (Below p) a → IsCall (deed cells word a k) → ⊥
+pub calls_none : (p : Program) (cells : ℕ → List (Option ℤ)) (word : ℕ) (a : Code) (k : List Remaining) → NamesAlone (Below p) a → IsCall (deed cells word a k) → ⊥
 calls_none p cells word Skip k g h = h
 calls_none p cells word (Then a b) k g h = h
 calls_none p cells word (Assign to e at) k g h = no_call (then_some (value_of cells e) (λ v. then_some (sized to v) (λ w. moved cells to w k))) h

@@ -3,6 +3,7 @@ use Rattle.std.proofs.Common.{◌≡◌, ℕ, List, [], ◌∷◌, ◌++◌, map
 use Rattle.std.specs.Prelude.{IsTrue}
 use Rattle.std.specs.Option.{option_to_list}
 use Rattle.spark_base.specs.declared.numbers.BodyNo.{BodyNo}
+use Rattle.core_form.specs.Calls.{HasNoCalls}
 use Rattle.core_form.specs.Code.{Next, Code, Repeat}
 use Rattle.core_form.specs.Fine.{IsSeenIn, IsWellFormed}
 use Rattle.core_form.specs.Proper.{IsProper}
@@ -80,9 +81,9 @@ loose_end p bs library b left own note f e x l t o =
     let g = subst (λ k. Goes all none all (names_of p (Root bs)) (before p bs) p k Next (Loose p (names_of p (Root bs)) library own)) e f.assigned in
     g x l t (loose_of p (names_of p (Root bs)) library own x t (root_names p bs x l t) o)
 
-module _ (p : Program) (fine : IsWellFormed p) (proper : IsProper p) (silent : IsSilent p) where
+module _ (p : Program) (fine : IsWellFormed p) (proper : IsProper p) (plain : HasNoCalls p) (silent : IsSilent p) where
   sound : (b : ℕ) → IsSound p b (code_of_body p b)
-  sound b = sound_body p fine proper b
+  sound b = sound_body p fine proper plain b
 
   -- the main begins
   main_starts : (library : List (List (Option ℤ))) (bs : List ℕ) (o : Option BodyNo) → AreElaborated p (map (λ (b : BodyNo). b.0) (option_to_list o)) (before p bs)

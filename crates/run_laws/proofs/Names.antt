@@ -1,21 +1,25 @@
 -- What the code of a well-formed and proper program names.
 use Rattle.std.proofs.Common.{◌≡◌, ℕ, zero, suc, ◌<◌, List, [], ◌∷◌, length, Option, Some, None, refl, sym, subst, arith}
-use Rattle.std.specs.Prelude.{slice_get, All}
+use Rattle.std.specs.Prelude.{slice_get, All, IfSome}
 use Rattle.std.proofs.lemmas.List.Elements.{All-head, All-tail}
 use Rattle.std.proofs.lemmas.Option.{get_or_from_slice_get, slice_get_within}
 use Rattle.spark_base.specs.declared.numbers.ExprNo.{ExprNo}
+use Rattle.spark_base.specs.declared.numbers.LeafNo.{LeafNo}
 use Rattle.spark_base.specs.declared.numbers.StmtNo.{StmtNo}
+use Rattle.core_form.specs.Calls.{HasNoCalls}
+use Rattle.core_form.specs.declared.code.Actual.{Actual}
 use Rattle.core_form.specs.declared.code.CoreExpr.{CoreExpr}
 use Rattle.core_form.specs.declared.code.CoreStmt.{CoreStmt}
-use Rattle.core_form.specs.Code.{Expr, At, Code, Skip, Then, Assign, Clear, Branch, Repeat, Exit, Called, Guard, Delay, ReadClock, Stop, exprs_at, spot_at, expr_at, codes_at, code_at, expr_of, code_of}
+use Rattle.core_form.specs.Code.{Expr, At, Actuals, actuals_at, spots_at, Code, Skip, Then, Assign, Clear, Branch, Repeat, Exit, Called, Guard, Delay, ReadClock, Stop, exprs_at, spot_at, expr_at, codes_at, code_at, expr_of, code_of}
 use Rattle.core_form.specs.Exits.{ExitsIn}
-use Rattle.core_form.specs.Fine.{CodeIn, NamesIn, AllNamesIn, SpotIn, ExprsBelow, StmtsBelow, PlaceBelow, IsFineExpr, IsFineStmt, AreFineExprs, AreFineStmts, IsFineBody, IsSeenIn, IsWellFormed}
+use Rattle.core_form.specs.Fine.{ActualBelow, ActualsIn, CodeIn, NamesIn, AllNamesIn, SpotIn, SpotsIn, ExprsBelow, StmtsBelow, PlaceBelow, IsFineExpr, IsFineStmt, AreFineExprs, AreFineStmts, IsFineBody, IsSeenIn, IsWellFormed}
 use Rattle.core_form.specs.Proper.{IsProper, IsProperCode, IsProperList, IsProperMember}
 use Rattle.core_form.specs.declared.program.Body.{Body}
 use Rattle.core_form.specs.declared.program.Program.{Program}
 use Rattle.flow_relations.specs.Equation.{code_at_body, code_of_body}
 use Rattle.run_model.specs.Machine.{body_code}
 use Rattle.core_form.specs.declared.code.Place.{Place}
+use Rattle.core_form.proofs.Alone.{NamesAlone, names_alone}
 use Rattle.core_form.proofs.Trees.{expr_unfolds, code_unfolds}
 use Rattle.run_laws.proofs.Walks.{Below, IsRight}
 
@@ -34,6 +38,22 @@ module _ (P : ℕ → Type 0) (leaves : ℕ) (inside : (x : ℕ) → x < leaves 
 
   place_named : (f : ExprNo → Expr) (n : ℕ) → ((e : ExprNo) → e.0 < n → NamesIn P (f e)) → (place : Place) → PlaceBelow leaves n place → SpotIn P (spot_at f place)
   place_named f n h place b = (inside place.leaf.0 b.0, list_named f n h place.part b.1)
+
+  places_named : (f : ExprNo → Expr) (n : ℕ) → ((e : ExprNo) → e.0 < n → NamesIn P (f e)) → (places : List Place) → All (PlaceBelow leaves n) places → SpotsIn P (spots_at f places)
+  places_named f n h [] b = tt
+  places_named f n h (place ∷ places) b =
+      (place_named f n h place (All-head (PlaceBelow leaves n) place places b), places_named f n h places (All-tail (PlaceBelow leaves n) place places b))
+
+  actuals_named : (f : ExprNo → Expr) (n : ℕ) → ((e : ExprNo) → e.0 < n → NamesIn P (f e)) → (list : List Actual) → All (ActualBelow leaves n) list → ActualsIn P (actuals_at f list)
+  unfolding ActualBelow
+  actuals_named f n h [] b = tt
+  actuals_named f n h (a ∷ list) b =
+      let first = All-head (ActualBelow leaves n) a list b in
+      (list_named f n h a.value first.value, places_named f n h a.back first.back, actuals_named f n h list (All-tail (ActualBelow leaves n) a list b))
+
+  barrier_named : (barrier : Option LeafNo) → IfSome barrier (λ leaf. leaf.0 < leaves) → IfSome barrier (λ leaf. P leaf.0)
+  barrier_named None b = b
+  barrier_named (Some leaf) b = inside leaf.0 b
 
   node_named : (f : ExprNo → Expr) (n : ℕ) → ((e : ExprNo) → e.0 < n → NamesIn P (f e)) → (node : CoreExpr) → IsFineExpr leaves n node → NamesIn P (expr_at f (Some node))
   node_named f n h (CoreExpr.Value v) b = tt
@@ -54,8 +74,8 @@ module _ (P : ℕ → Type 0) (leaves : ℕ) (inside : (x : ℕ) → x < leaves 
   stmt_named count f h g n k (CoreStmt.Loop body) b = k body b
   stmt_named count f h g n k (CoreStmt.Leave m) b = tt
   stmt_named count f h g n k CoreStmt.Back b = tt
-  stmt_named count f h g n k (CoreStmt.Call callee actuals at) b = absurd b
-  stmt_named count f h g n k (CoreStmt.Guarded object barrier call) b = absurd b
+  stmt_named count f h g n k (CoreStmt.Call callee actuals at) b = actuals_named f count h actuals b
+  stmt_named count f h g n k (CoreStmt.Guarded object barrier call) b = (barrier_named barrier b.0, k call b.1)
   stmt_named count f h g n k (CoreStmt.DelayUntil e) b = absurd b
   stmt_named count f h g n k (CoreStmt.Clock to) b = absurd b
   stmt_named count f h g n k CoreStmt.Fail b = tt
@@ -88,8 +108,8 @@ right_code p body (Clear leaf) h = tt
 right_code p body (Branch e a b) h = (right_code p body a h.1, right_code p body b h.2)
 right_code p body (Repeat a) h = right_code p body a h
 right_code p body (Exit o) h = tt
-right_code p body (Called b actuals at) h = absurd h
-right_code p body (Guard o barrier c) h = absurd h
+right_code p body (Called b actuals at) h = tt
+right_code p body (Guard o barrier c) h = tt
 right_code p body (Delay e) h = absurd h
 right_code p body (ReadClock to) h = absurd h
 right_code p body Stop h = tt
@@ -102,23 +122,25 @@ right_list : (p : Program) (body : Body) (a : Code) → IsProperList p body a �
 right_list p body (Then a b) h = (right_member p body a h.0, right_list p body b h.1)
 right_list p body a h = right_member p body a h
 
--- the code of a body names what is there, and its own leaves and those of the library; its places are right
+-- the code of a body calls nothing, and names what is there, and its own leaves and those of the library; its places are right
 pub record IsSound (p : Program) (b : ℕ) (a : Code) : Type 0 where
-  pub below : CodeIn (Below p) a
-  pub seen : CodeIn (IsSeenIn p b) a
+  pub below : NamesAlone (Below p) a
+  pub seen : NamesAlone (IsSeenIn p b) a
   pub right : IsRight p a
   pub exits : ExitsIn 0 a
 
-pub sound_body : (p : Program) → IsWellFormed p → IsProper p → (b : ℕ) → IsSound p b (code_of_body p b)
-sound_body p fine proper b = cases (slice_get p.bodies b) refl
+pub sound_body : (p : Program) → IsWellFormed p → IsProper p → HasNoCalls p → (b : ℕ) → IsSound p b (code_of_body p b)
+sound_body p fine proper plain b = cases (slice_get p.bodies b) refl
   where
     cases : (o : Option Body) → slice_get p.bodies b ≡ o → IsSound p b (code_at_body p o)
     cases None e = record { below = tt; seen = tt; right = tt; exits = tt }
     cases (Some body) e =
         let is : IsFineBody p body = All_got (IsFineBody p) p.bodies b body fine.bodies e in
         record {
-          below = stmts_named (Below p) (length p.leaves) (λ x l. l) p.exprs p.stmts fine.nodes.exprs fine.nodes.stmts (suc body.code.0) body.code (omega arith) is.code;
-          seen = fine.names b body e;
+          below = names_alone (Below p) (code_of p.exprs p.stmts body.code)
+              (stmts_named (Below p) (length p.leaves) (λ x l. l) p.exprs p.stmts fine.nodes.exprs fine.nodes.stmts (suc body.code.0) body.code (omega arith) is.code)
+              (plain b body e);
+          seen = names_alone (IsSeenIn p b) (code_of p.exprs p.stmts body.code) (fine.names b body e) (plain b body e);
           right = right_list p body (code_of p.exprs p.stmts body.code) (proper.code b body e);
           exits = fine.exits b body e;
         }

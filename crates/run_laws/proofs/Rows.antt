@@ -2,7 +2,8 @@
 use Rattle.std.proofs.Common.{◌≡◌, ◌≢◌, ◌⊎◌, inl, inr, ℕ, zero, suc, ◌<◌, ◌≤◌, Bool, true, false, cond, ◌&&◌, nat_eq, List, [], ◌∷◌, length, Option, Some, None, refl, sym, ap, ◌∙◌, subst, arith}
 use Rattle.std.specs.Prelude.{IsTrue, IsSomeAnd, slice_get}
 use Rattle.core_form.specs.Code.{At, Outcome, Next, Code, Skip, Then, Assign, Clear, Branch, Repeat, Exit, Called, Guard, Delay, ReadClock, Stop, code_of}
-use Rattle.core_form.specs.Fine.{CodeIn, home_of}
+use Rattle.core_form.specs.Fine.{home_of}
+use Rattle.core_form.proofs.Alone.{NamesAlone}
 use Rattle.core_form.specs.declared.contract.Contract.{Contract}
 use Rattle.core_form.specs.declared.program.Body.{Body}
 use Rattle.core_form.specs.declared.program.Formal.{Formal}
@@ -37,7 +38,7 @@ rounds_write void f (suc n) x (inr h) = rounds_write void f n x h.1
 
 module _ (p : Program) where
   -- a leaf that is kept is itself
-  kept_self : (P : ℕ → Type 0) (a : Code) → CodeIn P a → (o : Outcome) (x w : ℕ) → Below p x → (plain_flow p a).kept o x w → x ≡ w
+  kept_self : (P : ℕ → Type 0) (a : Code) → NamesAlone P a → (o : Outcome) (x w : ℕ) → Below p x → (plain_flow p a).kept o x w → x ≡ w
   kept_self P Skip g o x w l k = k.1.1
   kept_self P (Then a b) g o x w l (inl k) = kept_self P a g.0 o x w l k.1
   kept_self P (Then a b) g o x w l (inr k) =
@@ -61,7 +62,7 @@ module _ (p : Program) where
   kept_self P Stop g o x w l k = absurd k
 
   -- what is read is named
-  pub reads_named : (P : ℕ → Type 0) (a : Code) → CodeIn P a → (x : ℕ) → Below p x → (plain_flow p a).reads x → names_of (clock_among p.vars) a x
+  pub reads_named : (P : ℕ → Type 0) (a : Code) → NamesAlone P a → (x : ℕ) → Below p x → (plain_flow p a).reads x → names_of (clock_among p.vars) a x
   reads_named P Skip g x l h = h
   reads_named P (Then a b) g x l (inl h) = inl (reads_named P a g.0 x l h)
   reads_named P (Then a b) g x l (inr h) =
@@ -84,7 +85,7 @@ module _ (p : Program) where
   reads_named P Stop g x l h = h
 
   -- what is written is named
-  pub writes_named : (P : ℕ → Type 0) (a : Code) → CodeIn P a → (x : ℕ) → (plain_flow p a).writes x → names_of (clock_among p.vars) a x
+  pub writes_named : (P : ℕ → Type 0) (a : Code) → NamesAlone P a → (x : ℕ) → (plain_flow p a).writes x → names_of (clock_among p.vars) a x
   writes_named P Skip g x h = h
   writes_named P (Then a b) g x (inl h) = inl (writes_named P a g.0 x h)
   writes_named P (Then a b) g x (inr h) = inr (writes_named P b g.1 x h.1)
@@ -168,7 +169,7 @@ module _ (p : Program) (unset : ℕ → Bool) (x : ℕ) (stays : unset x ≡ fal
       cases false g = g
 
 -- the row of a body has what it reads and writes of the library by its code
-module _ (p : Program) (b : ℕ) (body : Body) (is : slice_get p.bodies b ≡ Some body) (sound : CodeIn (Below p) (code_of_body p b)) (x : ℕ) (library : IsTrue (is_library p x)) where
+module _ (p : Program) (b : ℕ) (body : Body) (is : slice_get p.bodies b ≡ Some body) (sound : NamesAlone (Below p) (code_of_body p b)) (x : ℕ) (library : IsTrue (is_library p x)) where
   code_is : code_of_body p b ≡ code_of p.exprs p.stmts body.code
   code_is = ap (code_at_body p) is
 
@@ -188,7 +189,7 @@ module _ (p : Program) (b : ℕ) (body : Body) (is : slice_get p.bodies b ≡ So
       (inl (library_home p x library, writes_named p (Below p) (code_of_body p b) sound x h), subst (λ a. (plain_flow p a).writes x) (sym whole_is) flow)
 
 -- nor does a leaf that is given to the body begin unassigned: the row has what its code reads of it
-module _ (p : Program) (b : ℕ) (body : Body) (is : slice_get p.bodies b ≡ Some body) (sound : CodeIn (Below p) (code_of_body p b)) (x : ℕ) (below : Below p x) (given : IsGiven p b body x) where
+module _ (p : Program) (b : ℕ) (body : Body) (is : slice_get p.bodies b ≡ Some body) (sound : NamesAlone (Below p) (code_of_body p b)) (x : ℕ) (below : Below p x) (given : IsGiven p b body x) where
   given_home : IsSomeAnd (home_of p x) (IsPassed b) × (starts_unset p b body.formals x ≡ false)
   given_home = leaf (slice_get p.leaves x) given
     where
@@ -219,7 +220,7 @@ module _ (p : Program) (b : ℕ) (body : Body) (is : slice_get p.bodies b ≡ So
       (inr given_home.0, subst (λ a. (plain_flow p a).reads x) (sym (ap (whole_at p b) is)) flow)
 
 -- it is listed in a Global of the body
-module _ (p : Program) (silent : IsSilent p) (b : ℕ) (sound : CodeIn (Below p) (code_of_body p b)) (c : Contract) (is : IsGlobalOf p b c) (x : ℕ) (out : IsOutside p b x) where
+module _ (p : Program) (silent : IsSilent p) (b : ℕ) (sound : NamesAlone (Below p) (code_of_body p b)) (c : Contract) (is : IsGlobalOf p b c) (x : ℕ) (out : IsOutside p b x) where
   pub reads_listed : (plain_flow p (code_of_body p b)).reads x → IsListed p is_input c.globals x
   reads_listed h = (silent.globals b c is).reads x out (row_reads p b is.0 is.1 sound x out.library h)
 

@@ -3,7 +3,8 @@ use Rattle.std.proofs.Common.{◌≡◌, ◌⊎◌, inl, inr, ℕ, ◌<◌, Bool
 use Rattle.std.specs.Prelude.{IfSome, IsSomeAnd, IsTrue, slice_get, slice_index_or}
 use Rattle.std.proofs.lemmas.Bool.{eq-eqb}
 use Rattle.core_form.specs.Code.{Outcome, Next, Leaves, Returns}
-use Rattle.core_form.specs.Fine.{CodeIn, IsHomeOf, IsSeenIn, IsWellFormed, home_of}
+use Rattle.core_form.specs.Fine.{IsHomeOf, IsSeenIn, IsWellFormed, home_of}
+use Rattle.core_form.proofs.Alone.{NamesAlone}
 use Rattle.core_form.specs.declared.program.Body.{Body}
 use Rattle.core_form.specs.declared.program.Home.{Home}
 use Rattle.core_form.specs.declared.program.Leaf.{Leaf}
@@ -35,7 +36,7 @@ open_of p names library own x l h = (h.1.0, sym (ap (λ b. slice_get (cond b (sl
 pub loose_of : (p : Program) (names : ℕ → Type 0) (library own : List (List (Option ℤ))) (x : ℕ) → IsTrue (is_library p x) → names x → Open library x → Loose p names library own x
 loose_of p names library own x l n h = (n, (h.0, ap (λ b. slice_get (cond b (slice_index_or library x []) (slice_index_or own x [])) h.0) l ∙ h.1))
 
-module _ (p : Program) (b : ℕ) (sound : IsSound p b (code_of_body p b)) (names : ℕ → Type 0) (named : CodeIn names (code_of_body p b)) where
+module _ (p : Program) (b : ℕ) (sound : IsSound p b (code_of_body p b)) (names : ℕ → Type 0) (named : NamesAlone names (code_of_body p b)) where
   -- it has written nothing yet
   begins_declared : Goes none (read_by p b) (written_by p b) names all p (push (code_of_body p b) []) Next (Unwritten p [])
   begins_declared = goes_push none (read_by p b) (written_by p b) names all p (code_of_body p b) [] (Unwritten p []) (

@@ -3,7 +3,7 @@ use Rattle.std.proofs.Common.{◌≡◌, ◌≢◌, ◌⊎◌, inl, inr, ℕ, ze
 use Rattle.std.specs.Prelude.{IsTrue}
 use Rattle.spark_base.specs.declared.numbers.Span.{Span}
 use Rattle.core_form.specs.Code.{Expr, Exprs, At, Outcome, Next, Leaves, Returns, Code, Skip, Then, Assign, Clear, Branch, Repeat, Exit, Called, Guard, Delay, ReadClock, Stop}
-use Rattle.core_form.specs.Fine.{CodeIn}
+use Rattle.core_form.proofs.Alone.{NamesAlone}
 use Rattle.core_form.specs.Proper.{IsWholeRight, cells_of}
 use Rattle.core_form.specs.declared.program.Program.{Program}
 use Rattle.flow_relations.specs.Equation.{plain_flow}
@@ -47,7 +47,7 @@ rounds_stay void f h (suc n) o (inr c) = inr (void, (h Next c.0, rounds_stay voi
 
 module _ (p : Program) where
   -- what is unassigned stays so
-  void_stays : (a : Code) → CodeIn (Below p) a → (o : Outcome) → (plain_flow p a).can o → (plain_flow p a).kept o (length p.leaves) (length p.leaves)
+  void_stays : (a : Code) → NamesAlone (Below p) a → (o : Outcome) → (plain_flow p a).can o → (plain_flow p a).kept o (length p.leaves) (length p.leaves)
   void_stays Skip h o c = (c, (omega arith, refl))
   void_stays (Then a b) h o (inl c) = inl (c.0, void_stays a h.0 o c.1)
   void_stays (Then a b) h o (inr c) = inr (length p.leaves, (void_stays a h.0 Next c.0, void_stays b h.1 o c.1))
@@ -72,7 +72,7 @@ module _ (c : ℕ → Type 0) (p : Program) where
   behind_within a o v w h x l (inr i) = inr (h x l i.0, i.1)
 
   -- behind a first statement, what is behind both is all that is behind the second
-  then_behind : (a b : Code) → CodeIn (Below p) a → (o : Outcome) (v : ℕ → Type 0) → (plain_flow p a).can Next → Within p (behind c p b o (behind c p a Next v)) (behind c p (Then a b) o v)
+  then_behind : (a b : Code) → NamesAlone (Below p) a → (o : Outcome) (v : ℕ → Type 0) → (plain_flow p a).can Next → Within p (behind c p b o (behind c p a Next v)) (behind c p (Then a b) o v)
   then_behind a b h o v n x l (inl i) = inl (inr (length p.leaves, (void_stays p a h Next n, i.0)), i.1)
   then_behind a b h o v n x l (inr (inl i, k)) = inl (inr (x, (i.0, k)), i.1)
   then_behind a b h o v n x l (inr (inr i, k)) = inr (i.0, inr (x, (i.1, k)))
@@ -83,7 +83,7 @@ module _ (c : ℕ → Type 0) (p : Program) where
   exit_behind a b o v e x l (inr i) = inr (i.0, inl (e, i.1))
 
   -- what is behind one round, and then the loop, is behind the loop
-  again_behind : (a : Code) → CodeIn (Below p) a → (o : Outcome) (v : ℕ → Type 0) → (plain_flow p a).can Next → Within p (behind c p (Repeat a) o (behind c p a Next v)) (behind c p (Repeat a) o v)
+  again_behind : (a : Code) → NamesAlone (Below p) a → (o : Outcome) (v : ℕ → Type 0) → (plain_flow p a).can Next → Within p (behind c p (Repeat a) o (behind c p a Next v)) (behind c p (Repeat a) o v)
   again_behind a h o v n x l (inl i) = inl ((suc i.0.0, inr (length p.leaves, (void_stays p a h Next n, i.0.1))), i.1)
   again_behind a h o v n x l (inr (inl i, k)) = inl ((suc k.0, inr (x, (i.0, k.1))), i.1)
   again_behind a h o v n x l (inr (inr i, k)) = inr (i.0, (suc k.0, inr (x, (i.1, k.1))))
@@ -109,7 +109,7 @@ module _ (c : ℕ → Type 0) (p : Program) where
   rounds_within a sites g (suc n) v w h x l (inl i) = inl (g v w h x l i)
   rounds_within a sites g (suc n) v w h x l (inr i) = inr (i.0, rounds_within a sites g n (behind c p a Next v) (behind c p a Next w) (behind_within a Next v w h) x l i.1)
 
-  pub sites_within : (P : ℕ → Type 0) (a : Code) → CodeIn P a → (v w : ℕ → Type 0) → Within p v w → Within p (sites c p a v) (sites c p a w)
+  pub sites_within : (P : ℕ → Type 0) (a : Code) → NamesAlone P a → (v w : ℕ → Type 0) → Within p v w → Within p (sites c p a v) (sites c p a w)
   sites_within P Skip g v w h x l i = i
   sites_within P (Then a b) g v w h x l (inl i) = inl (sites_within P a g.0 v w h x l i)
   sites_within P (Then a b) g v w h x l (inr i) = inr (i.0, sites_within P b g.1 (behind c p a Next v) (behind c p a Next w) (behind_within a Next v w h) x l i.1)
@@ -149,7 +149,7 @@ module _ (c : ℕ → Type 0) (p : Program) where
   ]
 
   -- a tracked leaf that is read is of q, with what is cleared, or it is of r and its value at the beginning is read
-  pub sites_parts : (P : ℕ → Type 0) (a : Code) → CodeIn P a → (v q r : ℕ → Type 0) → ((x : ℕ) → v x → q x ⊎ r x) → (x : ℕ) → Below p x → sites c p a v x → sites c p a q x ⊎ (r x × (plain_flow p a).reads x)
+  pub sites_parts : (P : ℕ → Type 0) (a : Code) → NamesAlone P a → (v q r : ℕ → Type 0) → ((x : ℕ) → v x → q x ⊎ r x) → (x : ℕ) → Below p x → sites c p a v x → sites c p a q x ⊎ (r x × (plain_flow p a).reads x)
   sites_parts P Skip g v q r h x l i = absurd i
   sites_parts P (Then a b) g v q r h x l (inl i) = cases (sites_parts P a g.0 v q r h x l i)
     where
@@ -209,7 +209,7 @@ rounds_empty p a sites g (suc n) v h x (inl i) = g v h x i
 rounds_empty p a sites g (suc n) v h x (inr i) = rounds_empty p a sites g n (behind none p a Next v) (nothing_behind p a v h) x i.1
 
 -- where nothing is tracked, and nothing that is cleared is, there is no site
-pub sites_empty : (p : Program) (P : ℕ → Type 0) (a : Code) → CodeIn P a → (v : ℕ → Type 0) → ((x : ℕ) → v x → ⊥) → (x : ℕ) → sites none p a v x → ⊥
+pub sites_empty : (p : Program) (P : ℕ → Type 0) (a : Code) → NamesAlone P a → (v : ℕ → Type 0) → ((x : ℕ) → v x → ⊥) → (x : ℕ) → sites none p a v x → ⊥
 sites_empty p P Skip g v h x i = i
 sites_empty p P (Then a b) g v h x (inl i) = sites_empty p P a g.0 v h x i
 sites_empty p P (Then a b) g v h x (inr i) = sites_empty p P b g.1 (behind none p a Next v) empty x i.1
@@ -239,8 +239,8 @@ module _ (c r w names owed : ℕ → Type 0) (p : Program) where
   pub record Part (a : Code) (v : ℕ → Type 0) : Type 0 where
     pub reads : Within p (sites c p a v) r
     pub writes : (x : ℕ) → IsTrue (is_library p x) → (plain_flow p a).writes x → w x
-    pub below : CodeIn (Below p) a
-    pub named : CodeIn names a
+    pub below : NamesAlone (Below p) a
+    pub named : NamesAlone names a
     pub right : IsRight p a
 
   -- so does what remains, behind each outcome that may be

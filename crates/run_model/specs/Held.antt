@@ -4,6 +4,7 @@ use Rattle.spark_base.specs.declared.numbers.BodyNo.{BodyNo}
 use Rattle.spark_base.specs.declared.numbers.StmtNo.{StmtNo}
 use Rattle.core_form.specs.Code.{NoActual, Leaves, Returns, Code, Skip, Then, Assign, Clear, Branch, Repeat, Exit, Called, Guard, Delay, ReadClock, Stop, code_of}
 use Rattle.core_form.specs.Proper.{cells_of}
+use Rattle.core_form.specs.declared.code.CoreStmt.{CoreStmt}
 use Rattle.core_form.specs.declared.program.Program.{Program}
 use Rattle.run_model.specs.declared.state.Frame.{Frame as HeldFrame}
 use Rattle.run_model.specs.declared.state.Rest.{Rest}
@@ -90,6 +91,25 @@ IsHeldEffect p (Some (effect.Round s)) = s.0 < length p.stmts
 IsHeldEffect p (Some (effect.Left n)) = Unit {0}
 IsHeldEffect p (Some effect.Returned) = Unit {0}
 IsHeldEffect p (Some (effect.Changed leaf cells)) = (leaf.0 < length p.leaves) × (length cells ≡ cells_of p leaf.0)
+
+-- Calls are still to come: the code of a step does none
+
+abbrev pub IsNoCall : CoreStmt → Type 0
+IsNoCall (CoreStmt.Move to e at) = Unit {0}
+IsNoCall (CoreStmt.Fresh leaf) = Unit {0}
+IsNoCall (CoreStmt.If test a b) = Unit {0}
+IsNoCall (CoreStmt.Loop body) = Unit {0}
+IsNoCall (CoreStmt.Leave n) = Unit {0}
+IsNoCall CoreStmt.Back = Unit {0}
+IsNoCall (CoreStmt.Call callee actuals at) = ⊥
+IsNoCall (CoreStmt.Guarded object barrier call) = ⊥
+IsNoCall (CoreStmt.DelayUntil e) = Unit {0}
+IsNoCall (CoreStmt.Clock to) = Unit {0}
+IsNoCall CoreStmt.Fail = Unit {0}
+IsNoCall (CoreStmt.Seq stmts) = Unit {0}
+
+abbrev pub AreNoCalls : List CoreStmt → Type 0
+AreNoCalls stmts = All IsNoCall stmts
 
 -- a statement that is no sequence
 abbrev pub IsPlain : Code → Type 0

@@ -2,7 +2,7 @@ ghost use Rattle.std.specs.Prelude.{◌≡◌, ℕ, ◌<◌, List, length, IfOk}
 ghost use Rattle.spark_base.specs.declared.numbers.Span.{Span};
 ghost use Rattle.core_form.specs.Code.{Assign, code_of, expr_of, spot_at};
 ghost use Rattle.core_form.specs.Fine.{IsWellFormed, PlaceBelow};
-ghost use Rattle.run_model.specs.Held.{IsHeldEffect, IsPlain, effect_told};
+ghost use Rattle.run_model.specs.Held.{AreNoCalls, IsHeldEffect, IsPlain, effect_told};
 ghost use Rattle.run_model.specs.Machine.{Remaining, cells_seen, deed};
 ghost use Rattle.run_model.specs.Runs.{IsSized};
 
@@ -68,6 +68,7 @@ pub fn effect_of(
     s: StmtNo,
 ) -> Result<Option<Effect>, NoMemory>
     requires fine { IsWellFormed program.now }
+    requires calls { AreNoCalls program.now.stmts }
     requires in_range { s.0 < length program.now.stmts }
     requires plain { IsPlain (code_of program.now.exprs program.now.stmts s) }
     requires library { IsSized program.now library.now }

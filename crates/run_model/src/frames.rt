@@ -3,7 +3,7 @@ ghost use Rattle.std.specs.Vec.{vec_capacity, vec_len};
 ghost use Rattle.core_form.specs.Code.{Leaves, code_of, codes_at};
 ghost use Rattle.core_form.specs.Fine.{HasFineNodes, IsWellFormed};
 ghost use Rattle.core_form.specs.Proper.{cells_of};
-ghost use Rattle.run_model.specs.Held.{AreRests, AreStmts, IsHeldFrame, IsOpened, TellsFrame, frame_step, held_frame, held_left, is_begun, left_after, next_do, rest_weight, weight};
+ghost use Rattle.run_model.specs.Held.{AreNoCalls, AreRests, AreStmts, IsHeldFrame, IsOpened, TellsFrame, frame_step, held_frame, held_left, is_begun, left_after, next_do, rest_weight, weight};
 ghost use Rattle.run_model.specs.Machine.{Remaining, change_library, change_own, push, resume};
 ghost use Rattle.run_model.specs.Runs.{IsSized};
 
@@ -130,6 +130,7 @@ pub fn step_frame(
     frame: &mut Frame,
 ) -> Result<Stepped, NoMemory>
     requires fine { IsWellFormed program.now }
+    requires calls { AreNoCalls program.now.stmts }
     requires library { IsSized program.now library.old.items }
     requires frame { IsHeldFrame program.now frame.old }
     requires opened { IsOpened program.now frame.old.rest.items }

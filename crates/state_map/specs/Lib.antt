@@ -1,2 +1,2 @@
-pub mod Leaves
+pub use Rattle.core_form.specs.Leaves
 pub mod Views

@@ -1,7 +1,7 @@
 ghost use Rattle.std.specs.Prelude.{ℕ, ◌≡◌, ◌+◌, ◌<◌, ◌≤◌, ◌^◌, All, length};
 ghost use Rattle.core_form.specs.Fine.{IsFineItem, IsWellFormed};
 ghost use Rattle.flow_bits.specs.Sets.{Tells, either};
-ghost use Rattle.state_map.specs.Leaves.{IsLeafOf, IsLeafOfSome, IsLeafOfVar};
+ghost use Rattle.core_form.specs.Leaves.{IsLeafOf, IsLeafOfSome, IsLeafOfVar};
 
 use core_form::{Item, Program};
 use flow_bits::Row;

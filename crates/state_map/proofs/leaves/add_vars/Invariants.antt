@@ -1,6 +1,6 @@
 use Rattle.std.proofs.Common.{ℕ, ◌≡◌, ◌↔◌, ◌⊎◌, length, drop}
 use Rattle.flow_bits.specs.Sets.{Has}
-use Rattle.state_map.specs.Leaves.{IsLeafOfSome}
+use Rattle.core_form.specs.Leaves.{IsLeafOfSome}
 use Rattle.state_map.proofs.leaves.add_vars.Given as goal
 
 abbrev pub invariant-loop-var : goal.invariant-loop-var
