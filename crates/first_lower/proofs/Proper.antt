@@ -1,8 +1,9 @@
 -- An assembled program is proper.
-use Rattle.std.proofs.Common.{◌≡◌, ◌↔◌, ℕ, ◌+◌, ◌<◌, ◌≤◌, List, [], Some, All, length, refl, ap, sym, ◌∙◌, arith}
+use Rattle.std.proofs.Common.{◌≡◌, ◌↔◌, ℕ, ◌+◌, ◌<◌, ◌≤◌, List, [], Some, All, length, refl, ap, sym, subst, ◌∙◌, arith}
 use Rattle.std.specs.Prelude.{slice_get, true}
 use Rattle.std.proofs.lemmas.List.Elements.{All-nil}
-use Rattle.core_form.specs.Code.{code_of}
+use Rattle.spark_base.specs.declared.numbers.StmtNo.{StmtNo}
+use Rattle.core_form.specs.Code.{Code, code_of}
 use Rattle.core_form.specs.Proper.{IsDeclared, IsProper, IsProperList, MayWrite, cells_of}
 use Rattle.core_form.specs.declared.build.Nodes.{Nodes}
 use Rattle.core_form.specs.declared.program.Body.{Body}
@@ -12,7 +13,7 @@ use Rattle.core_form.specs.declared.program.Var.{Var}
 use Rattle.first_path.specs.declared.source.Source.{Source}
 use Rattle.first_lower.specs.Assembled.{HasRoots, IsAssembled}
 use Rattle.first_lower.specs.Known.{Each, KnownLine}
-use Rattle.first_lower.specs.Lowered.{elaboration, low_leaf, low_procedure, low_var}
+use Rattle.first_lower.specs.Lowered.{elaboration, low_leaf, low_procedure, low_statements, low_var, low_variables}
 use Rattle.first_lower.specs.declared.program.Roots.{Roots}
 use Rattle.first_lower.proofs.Entries.{All-slice_get, entry_here, entry_of}
 use Rattle.first_lower.proofs.Seen.{statements_known, statements_proper, variables_proper}
@@ -50,16 +51,20 @@ module _ (s : Source) (keys : List (List ℕ)) (nodes : Nodes) (r : Roots) (p : 
   no_formals : All (λ (body : Body). body.formals ≡ []) p.bodies
   no_formals = three_bodies s keys nodes r p a roots same (λ (body : Body). body.formals ≡ []) refl refl refl
 
+  -- the nodes of the program are those
+  in_program : (n : StmtNo) (c : Code) → code_of nodes.exprs nodes.stmts n ≡ c → code_of p.exprs p.stmts n ≡ c
+  in_program n c e = rw (a.exprs, a.stmts) e
+
   proper_code : AreNested s.body.procedure.lines → Each (KnownLine keys) s.body.procedure.lines
       → All (λ (body : Body). IsProperList p body (code_of p.exprs p.stmts body.code)) p.bodies
   proper_code nested known =
       let spec = elaboration s.spec.«package» s.spec.«package» r.spec true in
       let procedure = low_procedure keys s r.procedure in
       three_bodies s keys nodes r p a roots same (λ (body : Body). IsProperList p body (code_of p.exprs p.stmts body.code))
-      (rw (a.exprs, a.stmts, roots.spec_code) (variables_proper keys p spec scalar (writes spec refl) fresh 0 s.spec.variables (omega arith)))
+      (subst (λ c. IsProperList p spec c) (sym (in_program r.spec (low_variables 0 s.spec.variables) roots.spec_code)) (variables_proper keys p spec scalar (writes spec refl) fresh 0 s.spec.variables (omega arith)))
       (rw (a.exprs, a.stmts, roots.body_code) tt)
       (
-      rw (a.exprs, a.stmts, procedure_code s keys nodes r p a roots same nested)
+      subst (λ c. IsProperList p procedure c) (sym (in_program r.procedure (low_statements keys nested.statements) (procedure_code s keys nodes r p a roots same nested)))
       (statements_proper keys p procedure scalar (writes procedure refl) nested.statements (statements_known keys nested.statements s.body.procedure.lines nested.written known))
       )
 
