@@ -1,0 +1,4 @@
+pub mod Covers
+pub mod Kept
+pub mod Parts
+pub mod Runs

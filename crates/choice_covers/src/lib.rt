@@ -1,0 +1,11 @@
+//! The values that choices of cases and of array aggregates cover.
+#![tactic(auto)]
+
+mod choices;
+mod covers;
+mod runs;
+#[cfg(test)]
+mod tests;
+
+pub use choices::{Bounds, Covering, Placed, between};
+pub use covers::{refuse_coverage, refuse_outside};
