@@ -7,4 +7,7 @@ mod signatures;
 
 pub use names::{name_in_call, names_in_call};
 pub use rows::row_known;
-pub use signatures::{push_formal, push_result};
+pub use signatures::signature_of;
+
+#[cfg(test)]
+mod tests;

@@ -1,10 +1,11 @@
-ghost use Rattle.std.specs.Prelude.{◌≡◌, ◌+◌, ◌++◌, ◌∷◌, ◌<◌, ◌^◌, [], IfOk, IfNone, IfSome, None, OnOk, Some, length};
+ghost use Rattle.std.specs.Prelude.{◌≡◌, ◌+◌, ◌++◌, ◌∷◌, ◌<◌, ◌^◌, [], All, IfOk, IfNone, IfSome, None, OnOk, Some, length};
+ghost use Rattle.core_form.specs.Fine.{IsWellFormed};
 ghost use Rattle.core_form.specs.Proper.{is_result, result_of};
 ghost use Rattle.callee_view.specs.Seen.{is_moved_back, is_moved_in};
-ghost use Rattle.callee_view.specs.Signatures.{leaves_from, passed_of, passing_by, passings_of};
+ghost use Rattle.callee_view.specs.Signatures.{leaves_from, passed_of, passing_by, passings_of, signature_of};
 
 use call_flow::{Passing, Signature};
-use core_form::{Home, ParamMode, Program, Var};
+use core_form::{Formal, Home, ParamMode, Program, Var};
 use spark_base::{BodyNo, Items, LeafNo, NoMemory};
 use std::alloc::Global;
 
@@ -71,8 +72,8 @@ fn passing_by(first: u32, mode: ParamMode, count: u32) -> Passing
     }
 }
 
-/// Passes a formal of this mode, which has so many leaves from one on. 2^32 leaves or more are want of memory.
-pub fn push_formal(
+// Passes a formal of this mode, which has so many leaves from one on. 2^32 leaves or more are want of memory.
+fn push_formal(
     signature: &mut Signature,
     mode: ParamMode,
     first: LeafNo,
@@ -90,12 +91,8 @@ pub fn push_formal(
     push_leaves(&mut signature.leaves, first, count)
 }
 
-/// Passes the result as a formal of mode out; where there is none, no leaves are passed.
-pub fn push_result(
-    signature: &mut Signature,
-    program: &Program,
-    body: BodyNo,
-) -> Result<(), NoMemory>
+// Passes the result as a formal of mode out; where there is none, no leaves are passed.
+fn push_result(signature: &mut Signature, program: &Program, body: BodyNo) -> Result<(), NoMemory>
     ensures leaves { OnOk result (signature.new.leaves ≡ signature.old.leaves ++ passed_of program.now body.0 []) }
     ensures passings { OnOk result (signature.new.passings
         ≡ signature.old.passings ++ passings_of program.now body.0 (length signature.old.leaves) []) }
@@ -104,4 +101,38 @@ pub fn push_result(
         Some(var) => push_formal(signature, ParamMode::Out, var.from, var.count),
         None => push_formal(signature, ParamMode::Out, LeafNo(0), 0),
     }
+}
+
+// Passes formals of a body, and behind them its result.
+fn push_formals(
+    signature: &mut Signature,
+    program: &Program,
+    body: BodyNo,
+    formals: &[Formal],
+) -> Result<(), NoMemory>
+    requires formals { All (λ f. f.var.0 < length program.now.vars) formals.now }
+    ensures leaves { OnOk result (signature.new.leaves ≡ signature.old.leaves ++ passed_of program.now body.0 formals.now) }
+    ensures passings { OnOk result (signature.new.passings
+        ≡ signature.old.passings ++ passings_of program.now body.0 (length signature.old.leaves) formals.now) }
+{
+    for formal in formals {
+        let var = program.vars.at(formal.var.0 as usize);
+        push_formal(signature, formal.mode, var.from, var.count)?;
+    }
+    push_result(signature, program, body)
+}
+
+/// How the actuals of a call of a body are passed. 2^32 leaves or more are want of memory.
+pub fn signature_of(alloc: Global, program: &Program, body: BodyNo) -> Result<Signature, NoMemory>
+    requires fine { IsWellFormed program.now }
+    requires in_range { body.0 < length program.now.bodies }
+    ensures { IfOk result (λ s. s ≡ signature_of program.now body.0) }
+{
+    let mut signature = Signature {
+        leaves: Items::new(alloc),
+        passings: Items::new(alloc),
+    };
+    let formals = program.bodies.at(body.0 as usize).formals.as_slice();
+    push_formals(&mut signature, program, body, formals)?;
+    Ok(signature)
 }

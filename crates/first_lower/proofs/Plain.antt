@@ -20,7 +20,7 @@ lowered_plain s p l b body is =
     let procedure = low_procedure (variable_keys s.spec.variables) s l.third in
     All-slice_get Q p.bodies b body
     (All-same Q p.bodies (spec ∷ elab ∷ procedure ∷ []) l.bodies
-        (All-cons Q spec (elab ∷ procedure ∷ []) (rw l.spec_code (variables_alone 0 s.spec.variables))
-            (All-cons Q elab (procedure ∷ []) (rw l.body_code tt)
-                (All-cons Q procedure [] (rw l.procedure_code (statements_alone (variable_keys s.spec.variables) l.statements)) (All-nil Q)))))
+    (All-cons Q spec (elab ∷ procedure ∷ []) (rw l.spec_code (variables_alone 0 s.spec.variables))
+    (All-cons Q elab (procedure ∷ []) (rw l.body_code tt)
+    (All-cons Q procedure [] (rw l.procedure_code (statements_alone (variable_keys s.spec.variables) l.statements)) (All-nil Q)))))
     is

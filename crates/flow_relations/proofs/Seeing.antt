@@ -67,5 +67,5 @@ equation_sees p l R S b h =
     let caller = slice_get p.bodies b in
     row_grows (row_leaf_of l b) (flow_with p (calls_seen p l R caller) (whole_code p b)) (flow_with p (calls_seen p l S caller) (whole_code p b))
     (flow_sees _ (clock_among p.vars) (calls_seen p l R caller) (calls_seen p l S caller) (whole_code p b)
-        (λ c x k. calling_grows _ (λ v. v) (signature_of p c.0) (seen p l R caller c) (seen p l S caller c)
-            (seen_less p l R S caller c (h c.0 (whole_calls p b c.0 (slice_get p.bodies b) k))) x))
+    (λ c x k. calling_grows _ (λ v. v) (signature_of p c.0) (seen p l R caller c) (seen p l S caller c)
+    (seen_less p l R S caller c (h c.0 (whole_calls p b c.0 (slice_get p.bodies b) k))) x))

@@ -13,16 +13,3 @@ mod statements;
 pub use equation::{BodyRow, row_of_body};
 pub use flows::{End, Flow, Outcome, flow_of};
 pub use frame::Frame;
-
-#[cfg(test)]
-mod frame_tests;
-#[cfg(test)]
-mod loop_tests;
-#[cfg(test)]
-mod random_tests;
-#[cfg(test)]
-mod samples;
-#[cfg(test)]
-mod tests;
-#[cfg(test)]
-mod unrolled;

@@ -1,10 +1,10 @@
 // Programs with one body, built by hand.
-use crate::Frame;
 use core_form::{
     Body, BodyKind, CoreExpr, CoreStmt, Formal, Home, Leaf, Package, Part, Place, Program, Sharing,
     States, Var,
 };
 use flow_bits::{Row, Square};
+use flow_relations::Frame;
 use spark_base::{
     Bytes, ExprNo, FileNo, Items, LeafNo, NoMemory, PackageNo, Pos, Span, StmtNo, VarNo,
 };

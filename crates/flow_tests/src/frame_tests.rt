@@ -1,7 +1,7 @@
 // A body that names few leaves of a program with many: Local := First + Middle; Last := Local, and a spare.
 use crate::samples::{assign, has, list, number, program, read, relates};
-use crate::{BodyRow, Flow, Outcome, flow_of, row_of_body};
 use core_form::{CoreExpr, CoreOp, Home, Program, well_formed};
+use flow_relations::{BodyRow, Flow, Outcome, flow_of, row_of_body};
 use spark_base::{BodyNo, ExprNo, Items, LeafNo, NoMemory, PackageNo, StmtNo};
 use std::alloc::Global;
 use std::test::Fail;

@@ -1,7 +1,7 @@
 // Loops, exits and returns, built by hand over four variables.
 use crate::samples::{assign, has, list, program, read, relates};
-use crate::{BodyRow, row_of_body};
 use core_form::{CoreExpr, CoreOp, CoreStmt, Home, Program, well_formed};
+use flow_relations::{BodyRow, row_of_body};
 use spark_base::{BodyNo, ExprNo, Items, NoMemory, PackageNo, StmtNo};
 use std::alloc::Global;
 use std::process::Abort;

@@ -6,8 +6,8 @@ use crate::unrolled::{
     NAMES, NEXT, NOWHERE, Plain, RETURNS, VOID, branch, clearing, leaving, moving, one, pair,
     repeat, seq,
 };
-use crate::{End, Flow, Outcome, flow_of};
 use core_form::{CoreExpr, CoreStmt, Home, Place, Program, well_formed};
+use flow_relations::{End, Flow, Outcome, flow_of};
 use spark_base::{BodyNo, ExprNo, Items, LeafNo, NoMemory, PackageNo, StmtNo};
 use std::alloc::Global;
 use std::test::Fail;
