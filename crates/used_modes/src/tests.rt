@@ -1,8 +1,9 @@
 // A package P with a record X and an object O, both constituents of its state S, a variable Y without a state, and the clock.
-ghost use Rattle.std.specs.Prelude.{◌≡◌, IfOk, length};
+ghost use Rattle.std.specs.Prelude.{◌≡◌, ◌<◌, IfOk, length};
+ghost use Rattle.core_form.specs.Fine.{IsFineItem, IsWellFormed};
 ghost use Rattle.summary_rows.specs.Layout.{AreRows, IsIncreasing};
 
-use crate::{Question, is_left, is_library, note_new, some_leaf, used_mode};
+use crate::{is_left, is_library, note_new, used_mode};
 use core_form::{
     Home, Item, Leaf, Object, Package, Part, Program, Sharing, StateDef, States, Var, well_formed,
 };
@@ -175,6 +176,19 @@ const CASES: [(Told, Item, UsedMode, bool); 14] = [
     ((true, 0b01000, 0, 31), CLOCK, UsedMode::Input, true),
 ];
 
+fn does(program: &Program, rows: &Rows, item: Item) -> (UsedMode, bool)
+    requires fine { IsWellFormed program.now }
+    requires rows { AreRows rows.now }
+    requires in_range { 0 < length rows.now.layout.outer }
+    requires item { IsFineItem program.now item }
+{
+    let body = BodyNo(0);
+    (
+        used_mode(program, rows, body, item),
+        is_left(program, rows, body, item),
+    )
+}
+
 #[test]
 fn the_modes_of_items(rt: HostRuntime) -> Result<(), Fail> {
     let alloc = rt.alloc();
@@ -184,11 +198,9 @@ fn the_modes_of_items(rt: HostRuntime) -> Result<(), Fail> {
     assert!(rt; program.states.list.len() == 1 && program.objects.len() == 1);
     for (told, item, mode, left) in &CASES {
         let rows = rows(alloc, *told)?;
-        assert!(rt; used_mode(&program, &rows, BodyNo(0), *item) == *mode);
-        assert_eq!(rt; is_left(&program, &rows, BodyNo(0), *item), *left);
-        let read = *mode == UsedMode::Input;
-        let has_read = some_leaf(&program, &rows, BodyNo(0), Question::Read, *item);
-        assert!(rt; !read || has_read);
+        let (used, may_stay) = does(&program, &rows, *item);
+        assert!(rt; used == *mode);
+        assert_eq!(rt; may_stay, *left);
     }
     Ok(())
 }
