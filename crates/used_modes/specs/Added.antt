@@ -1,5 +1,5 @@
 -- Lists that grow as sets, and messages at places.
-use Rattle.std.specs.Prelude.{◌≡◌, ◌⊎◌, ◌↔◌, ℕ, List, [], ◌∷◌}
+use Rattle.std.specs.Prelude.{◌⊎◌, ◌↔◌, ℕ, List, [], ◌∷◌}
 use Rattle.std.specs.List.{Contains}
 use Rattle.spark_base.specs.declared.numbers.Span.{Span}
 use Rattle.spark_messages.specs.declared.messages.Code.{Code}
