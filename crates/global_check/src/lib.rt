@@ -8,3 +8,6 @@ mod messages;
 mod unlisted;
 
 pub use messages::append_global_messages;
+
+#[cfg(test)]
+mod tests;
