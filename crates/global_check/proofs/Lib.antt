@@ -1,0 +1,5 @@
+pub mod Gathered
+pub mod Told
+pub mod Viewed
+pub mod Whole
+pub mod Wrong

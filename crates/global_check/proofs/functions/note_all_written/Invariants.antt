@@ -1,0 +1,10 @@
+use Rattle.spark_base.specs.declared.numbers.LeafNo.{LeafNo}
+use Rattle.core_form.specs.declared.program.Item.{Item}
+use Rattle.used_modes.specs.UsedModes.{row_of}
+use Rattle.used_modes.proofs.Adding.{SoFar}
+use Rattle.global_check.specs.GlobalCheck.{IsWrittenAs}
+use Rattle.global_check.proofs.functions.note_all_written.Given as goal
+
+abbrev pub invariant-loop-leaf : goal.invariant-loop-leaf
+invariant-loop-leaf l = SoFar l.initial.items l.items (λ (leaf : LeafNo) (i : Item). IsWrittenAs l.program (row_of l.rows l.number.0)
+    l.number.0 l.body leaf.0 i) l.leaves l.leaf-index

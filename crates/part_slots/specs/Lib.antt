@@ -1,0 +1,4 @@
+pub mod Calls
+pub mod Readings
+pub mod Records
+pub mod Slots
