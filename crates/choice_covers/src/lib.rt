@@ -3,9 +3,11 @@
 
 mod choices;
 mod covers;
+mod laws;
 mod runs;
 #[cfg(test)]
 mod tests;
 
 pub use choices::{Bounds, Covering, Placed, between};
 pub use covers::{refuse_coverage, refuse_outside};
+pub use laws::gaps_are_values_left;
