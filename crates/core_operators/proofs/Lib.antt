@@ -1,3 +1,1 @@
 mod Equal
-pub mod Powers
-pub mod Products

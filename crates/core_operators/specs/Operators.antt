@@ -4,6 +4,8 @@ use Rattle.std.specs.Ordering.{int_eq}
 use Rattle.std.specs.Int.{int_rem_euclid, int_pow, int_bit_and, int_bit_or, int_bit_xor, w128}
 use Rattle.core_form.specs.declared.code.CoreOp.{CoreOp}
 use Rattle.core_form.specs.declared.code.CoreOp.TheVariants as op
+pub use Rattle.whole_numbers.specs.Numbers.{fitting, quotient, remainder, modulo, power, absolute, is_other}
+pub use Rattle.whole_numbers.specs.Classes.{class_of_sum, class_of_difference, class_of_product, class_of_power, class_of_and, class_of_or, class_of_xor}
 use Rattle.core_operators.specs.declared.operators.Operands.{Operands}
 use Rattle.core_operators.specs.declared.operators.Operands.TheVariants as of
 
@@ -11,47 +13,6 @@ use Rattle.core_operators.specs.declared.operators.Operands.TheVariants as of
 abbrev pub then_some : {A B : Type 0} → Option A → (A → Option B) → Option B
 then_some None f = None
 then_some (Some a) f = f a
-
--- Numbers
-
--- whether it lies in 128 bits
-abbrev pub fits : ℤ → Bool
-fits n = int_le (negsuc (2 ^ 127 - 1)) n && int_le n (pos (2 ^ 127 - 1))
-
-abbrev pub fitting : ℤ → Option ℤ
-fitting n = cond (fits n) (Some n) None
-
--- rounded towards zero
-abbrev pub quotient : ℤ → ℤ → Option ℤ
-quotient n m = cond (int_eq m (pos 0)) None (fitting (int_div n m))
-
--- with the sign of the left operand
-abbrev pub remainder : ℤ → ℤ → Option ℤ
-remainder n m = cond (int_eq m (pos 0)) None (Some (int_rem n m))
-
-abbrev pub is_negative : ℤ → Bool
-is_negative n = int_lt n (pos 0)
-
-abbrev pub is_other : Bool → Bool → Bool
-is_other true b = not b
-is_other false b = b
-
--- with the sign of the right operand
-abbrev pub modulo : ℤ → ℤ → Option ℤ
-modulo n m =
-    if int_eq m (pos 0) then None else
-    if not (int_eq (int_rem n m) (pos 0)) && is_other (is_negative (int_rem n m)) (is_negative m) then fitting (int_rem n m +ℤ m)
-    else Some (int_rem n m)
-
--- an exponent up to 257: the power is the same, or fits neither way
-abbrev pub short_exponent : ℕ → ℕ
-short_exponent n = if nat_lt n 256 then n else 256 + n % 2
-
-abbrev pub power : ℤ → ℤ → Option ℤ
-power n m = if int_lt m (pos 0) then None else fitting (int_pow n (unsigned_abs m))
-
-abbrev pub absolute : ℤ → Option ℤ
-absolute n = if is_negative n then fitting (neg_ℤ n) else Some n
 
 -- Truth values are 0 and 1
 
@@ -76,40 +37,9 @@ one_of n m = then_some (truth n) (λ a. then_some (truth m) (λ b. Some (number_
 
 -- Classes within a modulus
 
--- what a modulus can be, within 128 bits
-pub record IsModulus (m : ℕ) : Type 0 where
-  pub low : 1 ≤ m
-  pub high : m < 2 ^ 127
-
 -- no number below 1 is one
 abbrev pub modulus : ℤ → Option ℕ
 modulus k = if int_lt k (pos 1) then None else Some (unsigned_abs k)
-
--- the number below the modulus of the class of a number
-abbrev pub reduced : ℤ → ℕ → ℕ
-reduced n m = unsigned_abs (int_rem_euclid n (pos m))
-
-abbrev pub class_of_sum : ℤ → ℤ → ℕ → ℤ
-class_of_sum a b m = pos ((reduced a m + reduced b m) % m)
-
-abbrev pub class_of_difference : ℤ → ℤ → ℕ → ℤ
-class_of_difference a b m = pos ((reduced a m + (m - reduced b m)) % m)
-
-abbrev pub class_of_product : ℤ → ℤ → ℕ → ℤ
-class_of_product a b m = pos ((reduced a m * reduced b m) % m)
-
-abbrev pub class_of_power : ℤ → ℤ → ℕ → Option ℤ
-class_of_power a b m = if int_lt b (pos 0) then None else Some (pos ((reduced a m ^ unsigned_abs b) % m))
-
--- bit by bit, with as many leading bits as the sign has
-abbrev pub class_of_and : ℤ → ℤ → ℕ → ℤ
-class_of_and a b m = pos (reduced (int_bit_and w128 a b) m)
-
-abbrev pub class_of_or : ℤ → ℤ → ℕ → ℤ
-class_of_or a b m = pos (reduced (int_bit_or w128 a b) m)
-
-abbrev pub class_of_xor : ℤ → ℤ → ℕ → ℤ
-class_of_xor a b m = pos (reduced (int_bit_xor w128 a b) m)
 
 -- the modulus less 1 less the operand, which is not reduced
 abbrev pub complement : ℤ → ℤ → Option ℤ

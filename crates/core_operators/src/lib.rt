@@ -1,8 +1,7 @@
 //! What the operators of core expressions make of values: whole numbers of 128 bits, truth values, and classes of a modulus.
 #![tactic(auto)]
 
-mod classes;
-mod numbers;
+mod moduli;
 mod operators;
 mod truths;
 

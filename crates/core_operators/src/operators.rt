@@ -1,16 +1,16 @@
 ghost use Rattle.std.specs.Prelude.{◌≡◌, [], Some};
 ghost use Rattle.core_operators.specs.Operators as specs;
 ghost use Rattle.core_operators.specs.declared.operators.Operands.TheVariants as of;
-ghost use Rattle.core_operators.specs.Operators.{IsModulus};
+ghost use Rattle.whole_numbers.specs.Classes.{IsModulus};
 
-use crate::classes::{
-    class_of_and, class_of_difference, class_of_or, class_of_power, class_of_product, class_of_sum,
-    class_of_xor, complement, modulus,
-};
-use crate::numbers::{absolute, modulo, power, quotient, remainder};
+use crate::moduli::{complement, modulus};
 use crate::truths::{both, negated, number_of, one_of, some_of};
 use core_form::CoreOp;
 use spark_base::Items;
+use whole_numbers::{
+    absolute, class_of_and, class_of_difference, class_of_or, class_of_power, class_of_product,
+    class_of_sum, class_of_xor, modulo, power, quotient, remainder,
+};
 
 /// Up to three operands that are one number each; others are no operands of an operator but equality.
 #[derive(Clone, Copy)]

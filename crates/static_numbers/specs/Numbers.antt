@@ -1,7 +1,9 @@
 -- Exact arithmetic on 128 bits, and on modular numbers.
-use Rattle.std.specs.Prelude.{ℕ, ◌+◌, ◌-◌, ◌*◌, ◌%◌, ◌^◌, ◌≤◌, Bool, true, false, cond, not, if◌then◌else◌, ◌&&◌, ◌||◌, Option, Some, None, ℤ, pos, negsuc, ◌+ℤ◌, ◌-ℤ◌, ◌*ℤ◌, neg_ℤ, int_le, int_lt, int_div, int_rem, nat_lt, bit_and, bit_or, bit_xor, unsigned_abs}
+use Rattle.std.specs.Prelude.{ℕ, ◌+◌, ◌-◌, ◌%◌, ◌^◌, Bool, true, false, cond, not, if◌then◌else◌, ◌&&◌, ◌||◌, Option, Some, None, ℤ, pos, ◌+ℤ◌, ◌-ℤ◌, ◌*ℤ◌, neg_ℤ, int_le, int_lt, int_div, int_rem, bit_and, bit_or, bit_xor, unsigned_abs}
 use Rattle.std.specs.Ordering.{int_eq}
-use Rattle.std.specs.Int.{int_rem_euclid, int_pow}
+use Rattle.std.specs.Int.{int_pow}
+pub use Rattle.whole_numbers.specs.Numbers.{fits, is_other, is_negative}
+use Rattle.whole_numbers.specs.Classes.{reduced, class_of_sum, class_of_difference, class_of_product}
 use Rattle.static_numbers.specs.declared.numbers.Computed.{Computed}
 use Rattle.static_numbers.specs.declared.numbers.Computed.TheVariants as made
 use Rattle.static_numbers.specs.declared.numbers.Computing.{Computing}
@@ -21,19 +23,8 @@ abbrev pub of_option : Option ℤ → Computed
 of_option None = made.Outside
 of_option (Some n) = made.Number n
 
--- whether it lies in 128 bits
-abbrev pub fits : ℤ → Bool
-fits n = int_le (negsuc (2 ^ 127 - 1)) n && int_le n (pos (2 ^ 127 - 1))
-
 abbrev pub fitted : ℤ → Computed
 fitted n = cond (fits n) (made.Number n) made.Outside
-
-abbrev pub is_other : Bool → Bool → Bool
-is_other true b = not b
-is_other false b = b
-
-abbrev pub is_negative : ℤ → Bool
-is_negative n = int_lt n (pos 0)
 
 abbrev pub added : ℤ → ℤ → ℤ
 added a b = a +ℤ b
@@ -58,10 +49,6 @@ modulo a b =
     if int_eq b (pos 0) then made.Nothing else
     if not (int_eq (int_rem a b) (pos 0)) && is_other (is_negative (int_rem a b)) (is_negative b) then fitted (added (int_rem a b) b)
     else made.Number (int_rem a b)
-
--- an exponent up to 257: the power is the same, or fits neither way
-abbrev pub short_exponent : ℕ → ℕ
-short_exponent n = if nat_lt n 256 then n else 256 + n % 2
 
 abbrev pub power : ℤ → ℤ → Computed
 power a b = if int_lt b (pos 0) then made.Nothing else fitted (int_pow a (unsigned_abs b))
@@ -88,21 +75,12 @@ compute_signed how.Xor a b = truth (is_other (is_nonzero a) (is_nonzero b))
 
 -- Modular numbers: each operand stands for the number of its class that is below the modulus
 
--- what a modulus can be
-pub record IsModulus (m : ℕ) : Type 0 where
-  pub low : 1 ≤ m
-  pub high : m ≤ 2 ^ 64
-
 -- one more than the greatest value
 abbrev pub modulus : ℕ → ℕ
 modulus last = last + 1
 
 abbrev pub class : ℕ → Computed
 class n = made.Number (pos n)
-
--- the number below the modulus of the class of a number
-abbrev pub reduced : ℤ → ℕ → ℕ
-reduced n m = unsigned_abs (int_rem_euclid n (pos m))
 
 -- the class of a number, where there is one
 abbrev pub wrapped : Computed → ℕ → Computed
@@ -116,9 +94,9 @@ bits n m = if int_lt n (pos 0) then reduced n m else unsigned_abs n
 
 -- sums, products and powers are those of classes; division is that of the numbers, as it is when the program runs
 abbrev pub compute_within : Computing → ℤ → ℤ → ℕ → Computed
-compute_within how.Add a b m = class ((reduced a m + reduced b m) % m)
-compute_within how.Subtract a b m = class ((reduced a m + (m - reduced b m)) % m)
-compute_within how.Multiply a b m = class ((reduced a m * reduced b m) % m)
+compute_within how.Add a b m = made.Number (class_of_sum a b m)
+compute_within how.Subtract a b m = made.Number (class_of_difference a b m)
+compute_within how.Multiply a b m = made.Number (class_of_product a b m)
 compute_within how.Divide a b m = wrapped (quotient a b) m
 compute_within how.Modulo a b m = wrapped (modulo a b) m
 compute_within how.Remainder a b m = wrapped (remainder a b) m

@@ -1,10 +1,10 @@
 //! Exact arithmetic on 128 bits, and on modular numbers.
-ghost use Rattle.std.specs.Prelude.{◌≡◌, ◌^◌, ◌*◌, ◌%◌, ◌/◌, ◌<◌, ◌≤◌, pos, IfSome};
-ghost use Rattle.std.specs.Int.{int_rem_euclid, int_pow};
+ghost use Rattle.std.specs.Prelude.{◌≡◌, ◌<◌, ◌^◌};
 ghost use Rattle.static_numbers.specs.Numbers as numbers;
-ghost use Rattle.static_numbers.specs.Numbers.{IsModulus};
+ghost use Rattle.whole_numbers.specs.Classes.{IsModulus};
 
 use ada_tree::{AddingOperator, LogicalOperator, MultiplyingOperator, RelationalOperator};
+use whole_numbers::{class_of_difference, class_of_power, class_of_product, class_of_sum, reduced};
 
 /// What an operator makes of values.
 #[derive(Clone, Copy, Debug)]
@@ -44,28 +44,19 @@ fn of_option(n: Option<i128>) -> Computed
 fn sum(a: i128, b: i128) -> Computed
     ensures { result ≡ numbers.fitted (numbers.added a b) }
 {
-    match a.checked_add(b) {
-        Some(n) => Computed::Number(n),
-        None => Computed::Outside,
-    }
+    of_option(a.checked_add(b))
 }
 
 fn difference(a: i128, b: i128) -> Computed
     ensures { result ≡ numbers.fitted (numbers.subtracted a b) }
 {
-    match a.checked_sub(b) {
-        Some(n) => Computed::Number(n),
-        None => Computed::Outside,
-    }
+    of_option(a.checked_sub(b))
 }
 
 fn product(a: i128, b: i128) -> Computed
     ensures { result ≡ numbers.fitted (numbers.multiplied a b) }
 {
-    match a.checked_mul(b) {
-        Some(n) => Computed::Number(n),
-        None => Computed::Outside,
-    }
+    of_option(a.checked_mul(b))
 }
 
 fn quotient(a: i128, b: i128) -> Computed
@@ -74,10 +65,7 @@ fn quotient(a: i128, b: i128) -> Computed
     if b == 0 {
         return Computed::Nothing;
     }
-    match a.checked_div(b) {
-        Some(n) => Computed::Number(n),
-        None => Computed::Outside,
-    }
+    of_option(whole_numbers::quotient(a, b))
 }
 
 fn remainder(a: i128, b: i128) -> Computed
@@ -86,49 +74,7 @@ fn remainder(a: i128, b: i128) -> Computed
     if b == 0 {
         return Computed::Nothing;
     }
-    Computed::Number(a.wrapping_rem(b))
-}
-
-/// The number of the class of `a`.
-fn reduced(a: i128, m: u128) -> u128
-    requires modulus { IsModulus m }
-    ensures value { pos result ≡ int_rem_euclid a (pos m) }
-    ensures below { result < m }
-{
-    a.rem_euclid(m as i128) as u128
-}
-
-/// What has been multiplied so far, behind one round of squaring.
-#[tactic(auto, using(crate::proofs::Powers::even_round, crate::proofs::Powers::odd_round))]
-fn round(so_far: u128, square: u128, left: u128, m: u128) -> u128
-    requires modulus { IsModulus m }
-    requires so_far { so_far < m }
-    requires square { square < m }
-    ensures below { result < m }
-    ensures round { (result * (square * square % m) ^ (left / 2)) % m ≡ (so_far * square ^ left) % m }
-{
-    if left % 2 == 1 {
-        so_far * square % m
-    } else {
-        so_far
-    }
-}
-
-/// `base` to the power `exponent`, within a modulus.
-fn power_within(base: u128, exponent: u128, m: u128) -> u128
-    requires modulus { IsModulus m }
-    requires base { base < m }
-    ensures { result ≡ (base ^ exponent) % m }
-{
-    let mut result = 1 % m;
-    let mut square = base;
-    let mut left = exponent;
-    while left > 0 {
-        result = round(result, square, left, m);
-        square = square * square % m;
-        left = left / 2;
-    }
-    result
+    of_option(whole_numbers::remainder(a, b))
 }
 
 /// One more than the greatest value of a modular type.
@@ -140,16 +86,10 @@ fn modulus(last: u64) -> u128
 }
 
 fn number(n: u128) -> Computed
-    requires { n < 2 ^ 64 }
+    requires { n < 2 ^ 127 }
     ensures { result ≡ numbers.class n }
 {
     Computed::Number(n as i128)
-}
-
-fn is_negative(n: i128) -> bool
-    ensures { result ≡ numbers.is_negative n }
-{
-    n < 0
 }
 
 /// `a mod b`: what lies between 0 and `b`.
@@ -159,39 +99,7 @@ fn modulo(a: i128, b: i128) -> Computed
     if b == 0 {
         return Computed::Nothing;
     }
-    let rest = a.wrapping_rem(b);
-    if rest != 0 && is_negative(rest) != is_negative(b) {
-        sum(rest, b)
-    } else {
-        Computed::Number(rest)
-    }
-}
-
-/// An exponent up to 257 that gives the same power, or none that fits either.
-fn short_exponent(b: u128) -> u32
-    ensures { result ≡ numbers.short_exponent b }
-{
-    if b < 256 {
-        b as u32
-    } else {
-        256 + (b % 2) as u32
-    }
-}
-
-fn power_to(a: i128, exponent: u32) -> Computed
-    ensures { result ≡ numbers.fitted (int_pow a exponent) }
-{
-    match a.checked_pow(exponent) {
-        Some(n) => Computed::Number(n),
-        None => Computed::Outside,
-    }
-}
-
-/// `a ** n`, whatever `n` is.
-fn power_natural(a: i128, n: u128) -> Computed
-    ensures { result ≡ numbers.fitted (int_pow a n) }
-{
-    power_to(a, short_exponent(n))
+    of_option(whole_numbers::modulo(a, b))
 }
 
 fn power(a: i128, b: i128) -> Computed
@@ -200,7 +108,7 @@ fn power(a: i128, b: i128) -> Computed
     if b < 0 {
         Computed::Nothing
     } else {
-        power_natural(a, b.unsigned_abs())
+        of_option(whole_numbers::power(a, b))
     }
 }
 
@@ -261,19 +169,16 @@ fn compute_modular(how: Computing, a: i128, b: i128, last: u64) -> Computed
 {
     let m = modulus(last);
     match how {
-        Computing::Add => number((reduced(a, m) + reduced(b, m)) % m),
-        Computing::Subtract => number((reduced(a, m) + (m - reduced(b, m))) % m),
-        Computing::Multiply => number(reduced(a, m) * reduced(b, m) % m),
+        Computing::Add => Computed::Number(class_of_sum(a, b, m)),
+        Computing::Subtract => Computed::Number(class_of_difference(a, b, m)),
+        Computing::Multiply => Computed::Number(class_of_product(a, b, m)),
         Computing::Divide => wrapped(quotient(a, b), m),
         Computing::Modulo => wrapped(modulo(a, b), m),
         Computing::Remainder => wrapped(remainder(a, b), m),
-        Computing::Power => {
-            if b < 0 {
-                Computed::Nothing
-            } else {
-                number(power_within(reduced(a, m), b.unsigned_abs(), m))
-            }
-        }
+        Computing::Power => match class_of_power(a, b, m) {
+            Some(n) => Computed::Number(n),
+            None => Computed::Nothing,
+        },
         Computing::And => number((bits(a, m) & bits(b, m)) % m),
         Computing::Or => number((bits(a, m) | bits(b, m)) % m),
         Computing::Xor => number((bits(a, m) ^ bits(b, m)) % m),
@@ -302,10 +207,7 @@ pub enum Preceding {
 fn negated(n: i128) -> Computed
     ensures { result ≡ numbers.fitted (numbers.negative n) }
 {
-    match n.checked_neg() {
-        Some(n) => Computed::Number(n),
-        None => Computed::Outside,
-    }
+    of_option(n.checked_neg())
 }
 
 fn alone_signed(how: Preceding, n: i128) -> Computed

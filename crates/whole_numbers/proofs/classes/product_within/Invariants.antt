@@ -1,5 +1,5 @@
 use Rattle.std.proofs.Common.{◌≡◌, ◌+◌, ◌*◌, ◌%◌, ◌<◌}
-use Rattle.core_operators.proofs.classes.product_within.Given as goal
+use Rattle.whole_numbers.proofs.classes.product_within.Given as goal
 
 abbrev pub decreases-loop-left : goal.decreases-loop-left
 decreases-loop-left l = l.left

@@ -1,6 +1,6 @@
 ghost use Rattle.std.specs.Prelude.{◌≡◌};
 ghost use Rattle.std.specs.Int.{int_pow};
-ghost use Rattle.core_operators.specs.Operators as specs;
+ghost use Rattle.whole_numbers.specs.Numbers as specs;
 
 /// Division rounded towards zero; none where `m` is zero.
 pub fn quotient(n: i128, m: i128) -> Option<i128>

@@ -1,5 +1,5 @@
 use Rattle.std.proofs.Common.{◌≡◌, ◌*◌, ◌%◌, ◌^◌, ◌<◌}
-use Rattle.static_numbers.proofs.numbers.power_within.Given as goal
+use Rattle.whole_numbers.proofs.classes.power_within.Given as goal
 
 abbrev pub decreases-loop-left : goal.decreases-loop-left
 decreases-loop-left l = l.left

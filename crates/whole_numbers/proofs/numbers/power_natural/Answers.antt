@@ -1,9 +1,9 @@
 use Rattle.std.proofs.Common.{◌∙◌, ap}
 use Rattle.std.proofs.lemmas.Int.{to_z-of_z}
 use Rattle.std.specs.Int.{int_pow, w128}
-use Rattle.core_operators.specs.Operators.{fitting}
-use Rattle.core_operators.proofs.Powers.{power_short}
-use Rattle.core_operators.proofs.numbers.power_natural.Goals as goal
+use Rattle.whole_numbers.specs.Numbers.{fitting}
+use Rattle.whole_numbers.proofs.Powers.{power_short}
+use Rattle.whole_numbers.proofs.numbers.power_natural.Goals as goal
 
 pub returns : goal.returns
 returns c =

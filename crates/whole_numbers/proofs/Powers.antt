@@ -7,7 +7,7 @@ use Rattle.std.proofs.lemmas.Int.{ints}
 use Rattle.std.proofs.lemmas.Bool.Decides.{nat_tests}
 use Rattle.std.specs.Int.{int_pow}
 use Rattle.std.specs.Prelude.{cond, if◌then◌else◌, ◌==◌}
-use Rattle.core_operators.specs.Operators.{fits, fitting, short_exponent}
+use Rattle.whole_numbers.specs.Numbers.{fits, fitting, short_exponent}
 
 pub one_to : (e : ℕ) → 1 ^ e ≡ 1
 one_to zero = refl

@@ -1,18 +1,10 @@
-ghost use Rattle.std.specs.Prelude.{◌≡◌, ◌+◌, ◌^◌, ◌*◌, ◌%◌, ◌/◌, ◌<◌, ◌≤◌, pos, IfSome};
+ghost use Rattle.std.specs.Prelude.{◌≡◌, ◌+◌, ◌^◌, ◌*◌, ◌%◌, ◌/◌, ◌<◌, ◌≤◌, pos};
 ghost use Rattle.std.specs.Int.{int_rem_euclid};
-ghost use Rattle.core_operators.specs.Operators as specs;
-ghost use Rattle.core_operators.specs.Operators.{IsModulus};
-
-/// A number that can be a modulus: 1 and more.
-pub fn modulus(k: i128) -> Option<u128>
-    ensures value { result ≡ specs.modulus k }
-    ensures fine { IfSome result IsModulus }
-{
-    if k < 1 { None } else { Some(k.unsigned_abs()) }
-}
+ghost use Rattle.whole_numbers.specs.Classes as specs;
+ghost use Rattle.whole_numbers.specs.Classes.{IsModulus};
 
 /// The number below the modulus of the class of `a`.
-fn reduced(a: i128, m: u128) -> u128
+pub fn reduced(a: i128, m: u128) -> u128
     requires modulus { IsModulus m }
     ensures value { pos result ≡ int_rem_euclid a (pos m) }
     ensures below { result < m }
@@ -140,14 +132,4 @@ pub fn class_of_xor(a: i128, b: i128, m: u128) -> i128
     ensures { result ≡ specs.class_of_xor a b m }
 {
     reduced(a ^ b, m) as i128
-}
-
-/// The modulus less 1 less the operand, which is not reduced.
-pub fn complement(n: i128, k: i128) -> Option<i128>
-    ensures { result ≡ specs.complement n k }
-{
-    match modulus(k) {
-        Some(m) => ((m - 1) as i128).checked_sub(n),
-        None => None,
-    }
 }
