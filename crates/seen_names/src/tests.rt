@@ -8,7 +8,7 @@ use name_keys::{KeyMap, KeyTable};
 use scope_table::{Open, ScopeTable};
 use seen_types::{BOOLEAN, ExprType, FieldSeen, INTEGER, Seen, Shape, TypeTable};
 use spark_base::{DeclNo, ExprNo, Items, Name, Pos, TypeNo};
-use static_eval::{booleans, integers};
+use static_meanings::{booleans, integers};
 use std::alloc::Global;
 use std::test::Fail;
 use use_table::{Member, UseTable};

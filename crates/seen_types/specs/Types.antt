@@ -1,9 +1,9 @@
 -- Types as they are seen from a package, or from outside of all.
 use Rattle.std.specs.Prelude.{ℕ, List, Bool, true, false, not, ◌||◌, if◌then◌else◌, nat_eq, slice_get, is_some, Option, Some, None}
 use Rattle.spark_base.specs.declared.numbers.TypeNo.{TypeNo}
-use Rattle.static_eval.specs.declared.meanings.Range.{Range}
-use Rattle.static_eval.specs.Meanings.{type_at}
-use Rattle.static_eval.specs.Pairs.{told}
+use Rattle.static_meanings.specs.declared.meanings.Range.{Range}
+use Rattle.static_meanings.specs.Meanings.{type_at}
+use Rattle.static_meanings.specs.Pairs.{told}
 use Rattle.seen_types.specs.declared.seen.Seen.{Seen}
 use Rattle.seen_types.specs.declared.seen.Shape.{Shape}
 use Rattle.seen_types.specs.declared.seen.Shape.TheVariants as shapes

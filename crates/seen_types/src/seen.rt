@@ -1,7 +1,7 @@
 //! What types and subtypes are.
 use name_keys::KeyMap;
 use spark_base::{DeclNo, TypeNo};
-use static_eval::Range;
+use static_meanings::Range;
 
 /// A component of a record: its declaration, and its type.
 #[derive(Clone, Copy, Debug)]

@@ -6,7 +6,7 @@ ghost use Rattle.seen_types.specs.Types.{sight};
 
 use crate::seen::{Seen, Shape};
 use spark_base::{NoMemory, TypeNo};
-use static_eval::{Pairs, Range};
+use static_meanings::{Pairs, Range};
 use std::alloc::Global;
 use std::marker::Model;
 

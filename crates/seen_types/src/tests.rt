@@ -3,7 +3,7 @@ use ada_forms::{BinaryOperator, UnaryOperator};
 use ada_tree::{AddingOperator, LogicalOperator, MultiplyingOperator, RelationalOperator};
 use name_keys::KeyMap;
 use spark_base::TypeNo;
-use static_eval::{Range, booleans, integers};
+use static_meanings::{Range, booleans, integers};
 use std::alloc::Global;
 use std::test::Fail;
 

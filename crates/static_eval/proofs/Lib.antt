@@ -1,3 +1,2 @@
 pub mod Overs
-pub mod Told
 pub mod Spines

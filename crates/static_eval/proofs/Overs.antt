@@ -5,7 +5,7 @@ use Rattle.spark_base.specs.declared.numbers.ExprNo.{ExprNo}
 use Rattle.spark_base.specs.declared.numbers.Pos.{Pos}
 use Rattle.ada_forms.specs.declared.forms.BinaryOperator.{BinaryOperator}
 use Rattle.static_eval.specs.declared.judgements.Judgement.{Judgement}
-use Rattle.static_eval.specs.declared.meanings.Meaning.{Meaning}
+use Rattle.static_meanings.specs.declared.meanings.Meaning.{Meaning}
 use Rattle.ada_forms.specs.Forms.{Expr, Binary, Constrained, InRange}
 use Rattle.static_eval.specs.Judged.{first_of, judged, said_of}
 use Rattle.static_eval.specs.Judgements as says

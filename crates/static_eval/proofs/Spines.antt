@@ -5,7 +5,7 @@ use Rattle.std.proofs.lemmas.List.Elements.{All-pop, All-push}
 use Rattle.spark_base.specs.declared.numbers.ExprNo.{ExprNo}
 use Rattle.ada_tree.specs.declared.expressions.ExprNode.{ExprNode}
 use Rattle.static_eval.specs.declared.judgements.Judgement.{Judgement}
-use Rattle.static_eval.specs.declared.meanings.Meaning.{Meaning}
+use Rattle.static_meanings.specs.declared.meanings.Meaning.{Meaning}
 use Rattle.ada_forms.specs.Forms.{Expr, expr_of}
 use Rattle.static_eval.specs.Judged.{first_of, judged, reversed, said_of, Spine}
 

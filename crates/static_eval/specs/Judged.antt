@@ -3,7 +3,7 @@ use Rattle.std.specs.Prelude.{◌≡◌, List, [], ◌∷◌, ◌++◌, Option, 
 use Rattle.spark_base.specs.declared.numbers.ExprNo.{ExprNo}
 use Rattle.ada_tree.specs.declared.expressions.ExprNode.{ExprNode}
 use Rattle.static_eval.specs.declared.judgements.Judgement.{Judgement}
-use Rattle.static_eval.specs.declared.meanings.Meaning.{Meaning}
+use Rattle.static_meanings.specs.declared.meanings.Meaning.{Meaning}
 use Rattle.ada_forms.specs.AttributeWords.{property_of}
 use Rattle.ada_forms.specs.Forms.{Expr, Exprs, Number, Identifier, Selected, Applied, Attribute, RangeAttribute, Qualified, Argument, NamedArgument, Parenthesized, Unary, Binary, InRange, InMark, Conditional, Positional, Named, Association, ValueChoice, RangeChoice, OthersChoice, Indication, Constrained, SubtypeRange, BoundsRange, AttributeRange, EndName, Absent, End, Then, expr_of}
 use Rattle.static_eval.specs.Judgements as says

@@ -12,17 +12,17 @@ use Rattle.ada_forms.specs.declared.forms.UnaryOperator.TheVariants as before_on
 use Rattle.static_eval.specs.declared.judgements.Failure.TheVariants as failures
 use Rattle.static_eval.specs.declared.judgements.Fault.{Fault}
 use Rattle.static_eval.specs.declared.judgements.Judgement.{Judgement}
-use Rattle.static_eval.specs.declared.meanings.Meaning.{Meaning}
-use Rattle.static_eval.specs.declared.meanings.Range.{Range}
-use Rattle.static_eval.specs.declared.meanings.Sense.{Sense}
-use Rattle.static_eval.specs.declared.meanings.Sense.TheVariants as senses
+use Rattle.static_meanings.specs.declared.meanings.Meaning.{Meaning}
+use Rattle.static_meanings.specs.declared.meanings.Range.{Range}
+use Rattle.static_meanings.specs.declared.meanings.Sense.{Sense}
+use Rattle.static_meanings.specs.declared.meanings.Sense.TheVariants as senses
 use Rattle.static_numbers.specs.declared.numbers.Computed.{Computed}
 use Rattle.static_numbers.specs.declared.numbers.Computed.TheVariants as made
 use Rattle.static_numbers.specs.declared.numbers.Computing.{Computing}
 use Rattle.static_numbers.specs.declared.numbers.Computing.TheVariants as how
 use Rattle.static_numbers.specs.declared.numbers.Preceding.{Preceding}
 use Rattle.static_numbers.specs.declared.numbers.Preceding.TheVariants as leads
-use Rattle.static_eval.specs.Meanings.{booleans, integers}
+use Rattle.static_meanings.specs.Meanings.{booleans, integers}
 use Rattle.static_numbers.specs.Numbers.{adding, compute, compute_alone, divides, fitted, is_other, length, logical, multiplied, multiplying, relate, sign, truth, within}
 
 -- Parts

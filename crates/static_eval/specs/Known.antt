@@ -6,15 +6,15 @@ use Rattle.spark_base.specs.declared.numbers.ExprNo.{ExprNo}
 use Rattle.ada_tree.specs.declared.units.Units.{Units}
 use Rattle.static_eval.specs.declared.judgements.Judgement.{Judgement}
 use Rattle.static_eval.specs.declared.known.Known.{Known}
-use Rattle.static_eval.specs.declared.meanings.Meaning.{Meaning}
-use Rattle.static_eval.specs.declared.meanings.Range.{Range}
+use Rattle.static_meanings.specs.declared.meanings.Meaning.{Meaning}
+use Rattle.static_meanings.specs.declared.meanings.Range.{Range}
 use Rattle.ada_forms.specs.Declarations.{Decl, decl_of}
 use Rattle.ada_forms.specs.Declarations as decls
 use Rattle.ada_forms.specs.Forms.{Expr, Identifier, Selected, Applied, Indication, Constrained, expr_of}
 use Rattle.static_eval.specs.Judged.{judged}
 use Rattle.static_eval.specs.Judgements.{either}
-use Rattle.static_eval.specs.Meanings.{mark, object, predefined, unknown}
-use Rattle.static_eval.specs.Pairs.{told}
+use Rattle.static_meanings.specs.Meanings.{mark, object, predefined, unknown}
+use Rattle.static_meanings.specs.Pairs.{told}
 
 abbrev pub nothing : Known
 nothing = record { values = []; names = []; ranges = [] }

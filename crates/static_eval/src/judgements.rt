@@ -2,10 +2,10 @@
 ghost use Rattle.std.specs.Prelude.{◌≡◌};
 ghost use Rattle.static_eval.specs.Judgements as says;
 
-use crate::meanings::{Meaning, Range, Sense, booleans, integers};
 use ada_forms::{BinaryOperator, Property, UnaryOperator};
 use ada_tree::RelationalOperator;
 use spark_base::Pos;
+use static_meanings::{Meaning, Range, Sense, booleans, integers};
 use static_numbers::{
     Computed, Computing, Preceding, adding, compute, compute_alone, divides, length, logical,
     multiplying, relate, scaled, sign, truth, within,

@@ -5,11 +5,10 @@ ghost use Rattle.ada_forms.specs.Declarations.{read};
 ghost use Rattle.static_eval.specs.Known as told;
 
 use crate::judgements::either;
-use crate::meanings::{Meaning, Range, mark, object, predefined, unknown};
-use crate::pairs::Pairs;
 use ada_forms::{DeclForm, ExprForm, decl_form, expr_form};
 use ada_tree::Units;
 use spark_base::{DeclNo, ExprNo, Name};
+use static_meanings::{Meaning, Pairs, Range, mark, object, predefined, unknown};
 use std::alloc::Global;
 
 /// What the declarations so far have told.

@@ -4,8 +4,6 @@
 mod judged;
 mod judgements;
 mod known;
-mod meanings;
-mod pairs;
 mod values;
 
 pub use judged::judge;
@@ -15,6 +13,4 @@ pub use judgements::{
     unstatic,
 };
 pub use known::{Known, meaning_at, range_of_indication, range_of_mark, result_at};
-pub use meanings::{Meaning, Range, Sense, booleans, integers, mark, object, predefined, unknown};
-pub use pairs::Pairs;
 pub use values::{Verdict, refused, value_of, verdict_of};

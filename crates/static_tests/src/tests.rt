@@ -6,7 +6,8 @@ use ada_tree::Units;
 use spark_base::{Bytes, DeclNo, ExprNo, FileNo, Items, NoMemory, TypeNo};
 use spark_messages::{Code, PhaseFault};
 use spark_parser::parse;
-use static_eval::{Known, Range, value_of};
+use static_eval::{Known, value_of};
+use static_meanings::Range;
 use std::alloc::Global;
 use std::test::Fail;
 

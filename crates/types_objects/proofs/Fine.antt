@@ -9,7 +9,7 @@ use Rattle.spark_messages.specs.declared.messages.PhaseFault.{PhaseFault}
 use Rattle.spark_messages.specs.declared.messages.PhaseFault.TheVariants as faults
 use Rattle.ada_tree.specs.declared.units.Units.{Units}
 use Rattle.static_eval.specs.declared.known.Known.{Known}
-use Rattle.static_eval.specs.declared.meanings.Range.{Range}
+use Rattle.static_meanings.specs.declared.meanings.Range.{Range}
 use Rattle.ada_forms.specs.Declarations.{Decl}
 use Rattle.ada_forms.specs.Declarations as decls
 use Rattle.ada_forms.specs.Forms.{Expr, Indication, Constrained, SubtypeRange, BoundsRange, AttributeRange}

@@ -4,7 +4,7 @@ use Rattle.std.specs.Prelude.{slice_get}
 use Rattle.std.proofs.lemmas.Int.{ints}
 use Rattle.spark_base.specs.declared.numbers.Pos.{Pos}
 use Rattle.static_eval.specs.declared.judgements.Judgement.{Judgement}
-use Rattle.static_eval.specs.declared.meanings.Range.{Range}
+use Rattle.static_meanings.specs.declared.meanings.Range.{Range}
 use Rattle.static_eval.specs.declared.values.Verdict.{Verdict}
 use Rattle.static_eval.specs.declared.values.Verdict.TheVariants as verdicts
 use Rattle.static_eval.specs.Values.{verdict_of}

@@ -13,8 +13,8 @@ use Rattle.ada_forms.proofs.Numbered.{numbered}
 use Rattle.ada_forms.specs.Declarations.{Decl, decl_of, read}
 use Rattle.ada_forms.specs.Declarations as decls
 use Rattle.ada_forms.specs.Forms.{Expr, Indication, Constrained, expr_of}
-use Rattle.static_eval.specs.Pairs.{told}
-use Rattle.static_eval.specs.Meanings.{type_at}
+use Rattle.static_meanings.specs.Pairs.{told}
+use Rattle.static_meanings.specs.Meanings.{type_at}
 use Rattle.types_objects.specs.declared.types.FieldDef.{FieldDef}
 use Rattle.types_objects.specs.declared.types.Types.{Types}
 use Rattle.types_objects.specs.Made.{component_of, component_type, fields_of, number_in, with_one}

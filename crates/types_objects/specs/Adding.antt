@@ -6,7 +6,7 @@ use Rattle.spark_base.specs.declared.numbers.TypeNo.{TypeNo}
 use Rattle.spark_messages.specs.declared.messages.PhaseFault.{PhaseFault}
 use Rattle.spark_messages.specs.declared.messages.PhaseFault.TheVariants as faults
 use Rattle.ada_tree.specs.declared.declarations.DeclNode.{DeclNode}
-use Rattle.static_eval.specs.Meanings.{type_at}
+use Rattle.static_meanings.specs.Meanings.{type_at}
 use Rattle.static_eval.specs.Values.{IsRefusal}
 use Rattle.types_objects.specs.declared.made.Made.{Made}
 use Rattle.types_objects.specs.declared.made.Made.TheVariants as made

@@ -7,7 +7,7 @@ use Rattle.ada_forms.specs.Declarations.{Decl, decl_of}
 use Rattle.ada_forms.specs.Declarations as decls
 use Rattle.ada_forms.specs.Forms.{Expr, Identifier, Selected, Indication, Constrained, RangeAttribute, SubtypeRange, AttributeRange}
 use Rattle.static_eval.specs.declared.known.Known.{Known}
-use Rattle.static_eval.specs.Pairs.{told}
+use Rattle.static_meanings.specs.Pairs.{told}
 use Rattle.types_objects.specs.declared.types.Types.{Types}
 
 abbrev pub without : DeclNo → Option TypeNo → Option DeclNo

@@ -2,7 +2,7 @@
 use Rattle.std.specs.Prelude.{◌^◌, Bool, true, Option, Some, None, ◌&&◌, ◌||◌, ℤ, pos, if◌then◌else◌, int_lt, int_le, unsigned_abs}
 use Rattle.spark_base.specs.declared.numbers.Pos.{Pos}
 use Rattle.spark_messages.specs.declared.messages.Code.TheVariants as codes
-use Rattle.static_eval.specs.declared.meanings.Range.{Range}
+use Rattle.static_meanings.specs.declared.meanings.Range.{Range}
 use Rattle.static_eval.specs.declared.judgements.Judgement.{Judgement}
 use Rattle.static_eval.specs.declared.values.Verdict.{Verdict}
 use Rattle.static_eval.specs.declared.values.Verdict.TheVariants as verdicts

@@ -7,7 +7,7 @@ use Rattle.ada_forms.specs.Declarations as decls
 use Rattle.ada_forms.specs.Forms.{Expr, SubtypeRange, BoundsRange, AttributeRange}
 use Rattle.ada_tree.specs.declared.units.Units.{Units}
 use Rattle.static_eval.specs.declared.known.Known.{Known}
-use Rattle.static_eval.specs.declared.meanings.Range.{Range}
+use Rattle.static_meanings.specs.declared.meanings.Range.{Range}
 use Rattle.static_eval.specs.Known.{range_of_indication}
 use Rattle.types_objects.specs.declared.made.Made.{Made}
 use Rattle.types_objects.specs.declared.made.Made.TheVariants as made

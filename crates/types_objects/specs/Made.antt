@@ -7,15 +7,15 @@ use Rattle.spark_base.specs.declared.numbers.TypeNo.{TypeNo}
 use Rattle.ada_tree.specs.declared.units.Units.{Units}
 use Rattle.static_eval.specs.declared.judgements.Judgement.{Judgement}
 use Rattle.static_eval.specs.declared.known.Known.{Known}
-use Rattle.static_eval.specs.declared.meanings.Range.{Range}
+use Rattle.static_meanings.specs.declared.meanings.Range.{Range}
 use Rattle.ada_forms.specs.Declarations.{Decl, decl_of}
 use Rattle.ada_forms.specs.Declarations as decls
 use Rattle.ada_forms.specs.Forms.{Expr, RangeAttribute, Indication, Constrained, SubtypeRange, BoundsRange, AttributeRange, number_of}
 use Rattle.static_eval.specs.Judged.{judged}
 use Rattle.static_eval.specs.Judgements.{either}
 use Rattle.static_eval.specs.Known.{known_meaning, range_of_mark}
-use Rattle.static_eval.specs.Meanings.{integers, type_at}
-use Rattle.static_eval.specs.Pairs.{told}
+use Rattle.static_meanings.specs.Meanings.{integers, type_at}
+use Rattle.static_meanings.specs.Pairs.{told}
 use Rattle.types_objects.specs.declared.bounds.Formed.{Formed}
 use Rattle.types_objects.specs.declared.bounds.Formed.TheVariants as formed
 use Rattle.types_objects.specs.declared.made.Made.{Made}

@@ -5,8 +5,8 @@ use Rattle.spark_base.specs.declared.numbers.DeclNo.{DeclNo}
 use Rattle.spark_base.specs.declared.numbers.TypeNo.{TypeNo}
 use Rattle.ada_forms.specs.Forms.{Expr, Identifier, Selected}
 use Rattle.static_eval.specs.declared.known.Known.{Known}
-use Rattle.static_eval.specs.Meanings.{type_at}
-use Rattle.static_eval.specs.Pairs.{told}
+use Rattle.static_meanings.specs.Meanings.{type_at}
+use Rattle.static_meanings.specs.Pairs.{told}
 use Rattle.types_objects.specs.declared.predefined.Predefined.{Predefined}
 use Rattle.types_objects.specs.declared.predefined.Predefined.TheVariants as names
 use Rattle.types_objects.specs.declared.types.Types.{Types}

@@ -4,7 +4,7 @@ use Rattle.std.specs.Char.{to_ascii_lowercase}
 use Rattle.spark_base.specs.declared.name.Name.{Name}
 use Rattle.spark_base.specs.declared.numbers.TypeNo.{TypeNo}
 use Rattle.ada_tree.specs.Words.{is_written}
-use Rattle.static_eval.specs.Meanings.{type_at}
+use Rattle.static_meanings.specs.Meanings.{type_at}
 use Rattle.types_objects.specs.declared.predefined.Predefined.{Predefined}
 use Rattle.types_objects.specs.declared.predefined.Predefined.TheVariants as names
 use Rattle.types_objects.specs.declared.types.TypeDef.{TypeDef}

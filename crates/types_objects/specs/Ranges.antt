@@ -1,7 +1,7 @@
 -- The bounds of discrete types and subtypes.
 use Rattle.std.specs.Prelude.{ℕ, ◌-◌, Bool, true, false, Option, Some, None, pos, ◌-ℤ◌, length, slice_get}
 use Rattle.spark_base.specs.declared.numbers.TypeNo.{TypeNo}
-use Rattle.static_eval.specs.declared.meanings.Range.{Range}
+use Rattle.static_meanings.specs.declared.meanings.Range.{Range}
 use Rattle.types_objects.specs.declared.ranges.Limits.{Limits}
 use Rattle.types_objects.specs.declared.types.TypeDef.{TypeDef}
 use Rattle.types_objects.specs.declared.types.TypeForm.{TypeForm}

@@ -6,7 +6,7 @@ use Rattle.ada_forms.specs.Declarations.{Decl, decl_of}
 use Rattle.ada_forms.specs.Declarations as decls
 use Rattle.ada_tree.specs.declared.units.Units.{Units}
 use Rattle.static_eval.specs.declared.known.Known.{Known}
-use Rattle.static_eval.specs.declared.meanings.Range.{Range}
+use Rattle.static_meanings.specs.declared.meanings.Range.{Range}
 use Rattle.types_objects.specs.declared.types.Types.{Types}
 use Rattle.types_objects.specs.Ranges.{range_of}
 

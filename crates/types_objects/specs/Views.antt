@@ -2,7 +2,7 @@
 use Rattle.std.specs.Prelude.{ℕ, Bool, true, false, ◌&&◌, nat_eq, List, Option, Some, None, slice_get}
 use Rattle.spark_base.specs.declared.numbers.DeclNo.{DeclNo}
 use Rattle.spark_base.specs.declared.numbers.TypeNo.{TypeNo}
-use Rattle.static_eval.specs.Pairs.{told}
+use Rattle.static_meanings.specs.Pairs.{told}
 use Rattle.types_objects.specs.declared.types.TypeDef.{TypeDef}
 use Rattle.types_objects.specs.declared.types.Types.{Types}
 use Rattle.types_objects.specs.declared.views.Sight.{Sight}

@@ -1,7 +1,7 @@
 //! Types that are added to the table.
 ghost use Rattle.std.specs.Prelude.{◌≡◌, ◌-◌, ◌^◌, ◌<◌, length, slice_get, OnOk, OnErr};
 ghost use Rattle.ada_forms.specs.Declarations.{decl_of};
-ghost use Rattle.static_eval.specs.Meanings.{type_at};
+ghost use Rattle.static_meanings.specs.Meanings.{type_at};
 ghost use Rattle.types_objects.specs.Adding.{IsAdded, IsShorter, appended, file_of_decl, numbered};
 ghost use Rattle.types_objects.specs.Made as spec;
 ghost use Rattle.types_objects.specs.Table.{IsTable};

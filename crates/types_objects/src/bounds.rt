@@ -6,7 +6,8 @@ ghost use Rattle.types_objects.specs.Bounds as bounds;
 use ada_tree::Units;
 use spark_base::{ExprNo, NoMemory, Pos};
 use spark_messages::Code;
-use static_eval::{Judgement, Known, Range, Verdict, judge, verdict_of};
+use static_eval::{Judgement, Known, Verdict, judge, verdict_of};
+use static_meanings::Range;
 use std::alloc::Global;
 
 /// What bounds or a modulus make, or the first refusal of them.

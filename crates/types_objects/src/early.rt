@@ -13,7 +13,8 @@ use crate::types::{TypeForm, Types};
 use ada_forms::{DeclForm, ExprForm, decl_form, expr_form};
 use ada_tree::Units;
 use spark_base::{DeclNo, ExprNo, Name, NoMemory};
-use static_eval::{Known, Range, range_of_indication};
+use static_eval::{Known, range_of_indication};
+use static_meanings::Range;
 use std::alloc::Global;
 
 fn own_limits(form: &TypeForm) -> Option<Limits>

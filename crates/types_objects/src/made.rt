@@ -17,7 +17,8 @@ use ada_forms::{DeclForm, ExprForm, decl_form, expr_form};
 use ada_tree::Units;
 use spark_base::{DeclNo, ExprNo, Items, Name, NoMemory, Pos, TypeNo};
 use spark_messages::Code;
-use static_eval::{Known, Range, either, integers, judge, range_of_mark};
+use static_eval::{Known, either, judge, range_of_mark};
+use static_meanings::{Range, integers};
 use std::alloc::Global;
 
 /// A type, and its first type.

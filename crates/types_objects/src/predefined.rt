@@ -6,7 +6,7 @@ ghost use Rattle.types_objects.specs.Table.{IsTable};
 use crate::types::{TypeDef, TypeForm, Types};
 use ada_tree::is_written;
 use spark_base::{Items, Name, NoMemory, TypeNo};
-use static_eval::Pairs;
+use static_meanings::Pairs;
 use std::alloc::Global;
 
 /// What a predefined name is.

@@ -7,7 +7,7 @@ ghost use Rattle.types_objects.specs.Types.{IsFormed};
 use crate::firsts::first_of;
 use crate::types::{TypeForm, Types};
 use spark_base::TypeNo;
-use static_eval::Range;
+use static_meanings::Range;
 
 /// The least value of a discrete type, and its greatest.
 #[derive(Clone, Copy, Debug)]

@@ -9,7 +9,8 @@ use crate::types::Types;
 use ada_forms::{DeclForm, decl_form};
 use ada_tree::Units;
 use spark_base::{DeclNo, NoMemory, TypeNo};
-use static_eval::{Known, Range};
+use static_eval::Known;
+use static_meanings::Range;
 
 pub fn tell_range(known: &mut Known, d: DeclNo, range: Option<Range>) -> Result<(), NoMemory>
     ensures { OnOk result (known.new ≡ spec.with_range known.old d range) }

@@ -1,9 +1,9 @@
 //! The table of types.
 ghost use Rattle.std.specs.Prelude.{◌≡◌, ◌<◌, ◌↔◌, length, IsTrue, slice_get, Some};
-ghost use Rattle.static_eval.specs.Pairs.{told};
+ghost use Rattle.static_meanings.specs.Pairs.{told};
 
 use spark_base::{DeclNo, ExprNo, Items, Name, TypeNo};
-use static_eval::Pairs;
+use static_meanings::Pairs;
 
 /// A component of a record.
 #[derive(Debug, Drop)]

@@ -6,7 +6,7 @@ use crate::firsts::first_of;
 use crate::ranges::is_integer;
 use crate::types::Types;
 use spark_base::{DeclNo, TypeNo};
-use static_eval::Pairs;
+use static_meanings::Pairs;
 
 /// What a place sees of private parts: those of its own package.
 #[derive(Debug, Drop)]

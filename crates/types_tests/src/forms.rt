@@ -5,7 +5,7 @@ ghost use Rattle.types_objects.specs.Table.{IsTable};
 use crate::tests::units_of;
 use crate::walk::{Walk, walked};
 use spark_base::{Bytes, DeclNo, NoMemory, TypeNo};
-use static_eval::Pairs;
+use static_meanings::Pairs;
 use std::alloc::Global;
 use std::test::Fail;
 use types_objects::{

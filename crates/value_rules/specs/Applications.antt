@@ -13,7 +13,7 @@ use Rattle.seen_names.specs.declared.entities.Entity.TheVariants.{Nothing}
 use Rattle.spark_base.specs.declared.numbers.Pos.{Pos}
 use Rattle.spark_base.specs.declared.numbers.TypeNo.{TypeNo}
 use Rattle.spark_messages.specs.declared.messages.Code.TheVariants as codes
-use Rattle.static_eval.specs.Meanings.{unknown}
+use Rattle.static_meanings.specs.Meanings.{unknown}
 use Rattle.static_eval.specs.declared.judgements.Judgement.{Judgement}
 use Rattle.value_rules.specs.Statics.{applied_faults}
 

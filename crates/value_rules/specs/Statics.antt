@@ -17,13 +17,13 @@ use Rattle.spark_base.specs.declared.numbers.Pos.{Pos}
 use Rattle.spark_base.specs.declared.numbers.TypeNo.{TypeNo}
 use Rattle.spark_messages.specs.declared.messages.Code.TheVariants as codes
 use Rattle.static_eval.specs.Judgements as says
-use Rattle.static_eval.specs.Meanings.{mark, object, scale, unknown}
+use Rattle.static_meanings.specs.Meanings.{mark, object, scale, unknown}
 use Rattle.static_eval.specs.declared.judgements.Failure.{Failure}
 use Rattle.static_eval.specs.declared.judgements.Failure.TheVariants as failures
 use Rattle.static_eval.specs.declared.judgements.Fault.{Fault}
 use Rattle.static_eval.specs.declared.judgements.Judgement.{Judgement}
-use Rattle.static_eval.specs.declared.meanings.Meaning.{Meaning}
-use Rattle.static_eval.specs.declared.meanings.Range.{Range}
+use Rattle.static_meanings.specs.declared.meanings.Meaning.{Meaning}
+use Rattle.static_meanings.specs.declared.meanings.Range.{Range}
 
 -- What names mean, as far as static values go
 

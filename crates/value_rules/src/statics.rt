@@ -3,7 +3,7 @@ ghost use Rattle.std.specs.Prelude.{◌≡◌, map, IfOk, OnOk};
 ghost use Rattle.value_rules.specs.Statics as spec;
 ghost use Rattle.name_findings.specs.Findings.{add_all};
 ghost use Rattle.seen_names.specs.Contexts.{context};
-ghost use Rattle.static_eval.specs.Meanings as meanings;
+ghost use Rattle.static_meanings.specs.Meanings as meanings;
 
 use crate::tellings::refuse_silent;
 use ada_forms::{BinaryOperator, Property, UnaryOperator};
@@ -12,10 +12,8 @@ use seen_names::{Entity, Place, Tables, Value};
 use seen_types::ExprType;
 use spark_base::{Items, NoMemory, Pos, TypeNo};
 use spark_messages::Code;
-use static_eval::{
-    Failure, Fault, Judgement, Meaning, Range, Sense, applied, attribute, binary, identifier, mark,
-    object, unary, unknown,
-};
+use static_eval::{Failure, Fault, Judgement, applied, attribute, binary, identifier, unary};
+use static_meanings::{Meaning, Range, Sense, mark, object, unknown};
 use std::alloc::Global;
 
 fn range_named(tables: &Tables, place: Place, t: Option<TypeNo>) -> Option<Range>

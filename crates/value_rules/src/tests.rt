@@ -16,7 +16,8 @@ use seen_names::{
 use seen_types::{BOOLEAN, DURATION, ExprType, INTEGER, MOMENT, Seen, Shape, TypeTable};
 use spark_base::{ExprNo, Items, Pos, TypeNo};
 use spark_messages::Code;
-use static_eval::{Judgement, Range, booleans, identifier, integers, literal, nothing_said};
+use static_eval::{Judgement, identifier, literal, nothing_said};
+use static_meanings::{Range, booleans, integers};
 use std::alloc::Global;
 use std::test::Fail;
 use use_table::UseTable;

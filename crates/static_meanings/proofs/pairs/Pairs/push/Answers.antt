@@ -1,7 +1,7 @@
 use Rattle.std.proofs.Common.{◌∙◌, ap, sym}
-use Rattle.static_eval.specs.Pairs.{told}
-use Rattle.static_eval.proofs.Told.{told_more}
-use Rattle.static_eval.proofs.pairs.Pairs.push.Goals as goal
+use Rattle.static_meanings.specs.Pairs.{told}
+use Rattle.static_meanings.proofs.Told.{told_more}
+use Rattle.static_meanings.proofs.pairs.Pairs.push.Goals as goal
 
 pub invariant_of-self-2 : goal.invariant_of-self-2
 invariant_of-self-2 g c n =

@@ -1,6 +1,6 @@
 //! Pairs of a number and what stands for it.
 ghost use Rattle.std.specs.Prelude.{ℕ, ◌≡◌, [], ◌∷◌, ◌++◌, ◌<◌, ◌≤◌, ◌+◌, ◌-◌, length, None, get_or, OnOk, OnErr};
-ghost use Rattle.static_eval.specs.Pairs.{told};
+ghost use Rattle.static_meanings.specs.Pairs.{told};
 
 use spark_base::NoMemory;
 use std::alloc::Global;
@@ -16,7 +16,7 @@ pub struct Pairs<V> {
 
 impl<V> Model for Pairs<V> {
     ghost use Rattle.std.specs.Prelude.{◌≡◌, ℕ, List, get_or, None};
-    ghost use Rattle.static_eval.specs.Pairs.{told};
+    ghost use Rattle.static_meanings.specs.Pairs.{told};
 
     ghost Value = { List (ℕ × V) };
 

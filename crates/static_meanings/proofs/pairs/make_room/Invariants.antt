@@ -1,5 +1,5 @@
 use Rattle.std.proofs.Common.{ℕ, ◌≡◌, ◌+◌, ◌-◌, length, None, get_or}
-use Rattle.static_eval.proofs.pairs.make_room.Given as goal
+use Rattle.static_meanings.proofs.pairs.make_room.Given as goal
 
 abbrev pub invariant-loop-slots : goal.invariant-loop-slots
 invariant-loop-slots g l = (k : ℕ) → get_or l.slots.items k None ≡ get_or l.fn.slots.items k None

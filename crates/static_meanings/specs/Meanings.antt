@@ -2,9 +2,9 @@
 use Rattle.std.specs.Prelude.{ℕ, false, List, Option, Some, None, ℤ, pos, negsuc, if◌then◌else◌, codes, is_some}
 use Rattle.spark_base.specs.declared.numbers.TypeNo.{TypeNo}
 use Rattle.ada_tree.specs.Words.{is_written}
-use Rattle.static_eval.specs.declared.meanings.Meaning.{Meaning}
-use Rattle.static_eval.specs.declared.meanings.Range.{Range}
-use Rattle.static_eval.specs.declared.meanings.Sense.TheVariants as senses
+use Rattle.static_meanings.specs.declared.meanings.Meaning.{Meaning}
+use Rattle.static_meanings.specs.declared.meanings.Range.{Range}
+use Rattle.static_meanings.specs.declared.meanings.Sense.TheVariants as senses
 
 -- the predefined discrete types, by their numbers
 

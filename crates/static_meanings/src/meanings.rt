@@ -1,6 +1,6 @@
 //! What names mean, as far as static values go.
 ghost use Rattle.std.specs.Prelude.{◌≡◌};
-ghost use Rattle.static_eval.specs.Meanings as known;
+ghost use Rattle.static_meanings.specs.Meanings as known;
 
 use ada_tree::is_written;
 use spark_base::TypeNo;

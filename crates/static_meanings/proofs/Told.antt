@@ -2,7 +2,7 @@
 use Rattle.std.proofs.Common.{◌≡◌, ℕ, ◌<◌, nat_eq, true, false, if◌then◌else◌, List, [], ◌∷◌, ◌++◌, length, set, get_or, Option, Some, None, refl, sym, ⊎_elim}
 use Rattle.std.proofs.lemmas.Bool.{cases_eq, eq-eqb, ne_eqb}
 use Rattle.std.proofs.lemmas.List.{get_or-set_same, get_or-set_other}
-use Rattle.static_eval.specs.Pairs.{told, told_from}
+use Rattle.static_meanings.specs.Pairs.{told, told_from}
 
 told_push_from : {V : Type 0} (found : Option V) (ps : List (ℕ × V)) (p : ℕ × V) (n : ℕ)
     → told_from found (ps ++ p ∷ []) n ≡ (if nat_eq p.0 n then Some p.1 else told_from found ps n)
