@@ -8,6 +8,3 @@ mod messages;
 mod unlisted;
 
 pub use messages::append_global_messages;
-
-#[cfg(test)]
-mod tests;

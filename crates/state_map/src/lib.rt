@@ -3,8 +3,6 @@
 
 mod leaves;
 mod names;
-#[cfg(test)]
-mod tests;
 mod views;
 
 pub use leaves::expand;

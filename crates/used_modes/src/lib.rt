@@ -6,6 +6,3 @@ mod used;
 
 pub use added::{error_at, note, note_new, warning_at};
 pub use used::{Question, is_left, is_library, row_leaves, some_leaf, used_mode};
-
-#[cfg(test)]
-mod tests;

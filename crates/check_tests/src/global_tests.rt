@@ -1,49 +1,19 @@
-// A package P with a record X and an object O, both constituents of its state S, a variable Y without a state, the clock, and a body Q.
-ghost use Rattle.std.specs.Prelude.{◌≡◌, ◌<◌, IfOk, length};
-ghost use Rattle.summary_rows.specs.Layout.{AreRows, IsIncreasing};
-
-use crate::append_global_messages;
-use core_form::{
-    Body, BodyKind, Contract, CoreStmt, GlobalItem, Home, Item, Leaf, Mode, Object, Package, Part,
-    Program, Sharing, StateDef, States, Var, well_formed,
-};
-use spark_base::{
-    BodyNo, Bytes, FileNo, ItemNo, Items, LeafNo, NoMemory, ObjectNo, PackageNo, Pos, Span, StmtNo,
-    VarNo,
-};
+// The messages on the Global of one body Q.
+use crate::samples::{self, Told, line, program, rows};
+use core_form::{Body, BodyKind, Contract, GlobalItem, Item, Mode, well_formed};
+use global_check::append_global_messages;
+use spark_base::{BodyNo, Bytes, ItemNo, Items, NoMemory, ObjectNo, PackageNo, StmtNo};
 use spark_messages::{ordered, text_of};
 use std::alloc::Global;
 use std::test::Fail;
-use summary_rows::{Layout, Rows};
 
-fn line(line: u32) -> Span {
-    let pos = Pos { line, col: 1 };
-    Span {
-        file: FileNo(0),
-        from: pos,
-        to: pos,
-    }
-}
-
-/// Name, sharing, state, first leaf, count of leaves.
-const VARS: [(&str, Sharing, Option<u32>, u32, u32); 6] = [
-    ("P.X", Sharing::Plain, Some(0), 0, 2),
-    ("P.Y", Sharing::Atomic, None, 2, 1),
-    ("P.O", Sharing::Plain, Some(0), 4, 2),
-    ("C", Sharing::Component(ObjectNo(0)), None, 4, 1),
-    ("D", Sharing::Component(ObjectNo(0)), None, 5, 1),
-    ("Ada.Real_Time.Clock_Time", Sharing::ClockTime, None, 3, 1),
-];
-
-/// The variables of the leaves.
-const LEAVES: [u32; 6] = [0, 0, 1, 5, 3, 4];
-
+/// The items of the program; contracts name them by their numbers.
 const ITEMS: [Item; 5] = [
-    Item::State(0),
-    Item::Whole(VarNo(0)),
-    Item::Whole(VarNo(1)),
-    Item::Guard(ObjectNo(0)),
-    Item::Whole(VarNo(5)),
+    samples::S,
+    samples::X,
+    samples::Y,
+    samples::O,
+    samples::CLOCK,
 ];
 
 const S: u32 = 0;
@@ -55,69 +25,6 @@ const Y: u32 = 2;
 const O: u32 = 3;
 
 const CLOCK: u32 = 4;
-
-fn variables(alloc: Global) -> Result<Items<Var>, NoMemory> {
-    let mut vars = Items::new(alloc);
-    for (name, sharing, state, from, count) in &VARS {
-        vars.push(Var {
-            name: Bytes::from_slice(alloc, name.as_bytes())?,
-            place: line(1),
-            home: if *sharing == Sharing::ClockTime {
-                Home::Clock
-            } else {
-                Home::Package(PackageNo(0))
-            },
-            part: Part::Hidden,
-            state: *state,
-            sharing: *sharing,
-            from: LeafNo(*from),
-            count: *count,
-            assigned: false,
-        })?;
-    }
-    Ok(vars)
-}
-
-fn leaves(alloc: Global) -> Result<Items<Leaf>, NoMemory> {
-    let mut leaves = Items::new(alloc);
-    for var in &LEAVES {
-        leaves.push(Leaf {
-            name: Bytes::new(alloc),
-            var: VarNo(*var),
-            cells: 1,
-        })?;
-    }
-    Ok(leaves)
-}
-
-fn state(alloc: Global) -> Result<StateDef, NoMemory> {
-    Ok(StateDef {
-        name: Bytes::from_slice(alloc, b"P.S")?,
-        package: PackageNo(0),
-        place: line(1),
-        variables: Items::from_vec(vec![in alloc; VarNo(0), VarNo(2)]?),
-        refined: true,
-    })
-}
-
-fn object(alloc: Global) -> Result<Object, NoMemory> {
-    Ok(Object {
-        name: Bytes::from_slice(alloc, b"P.O")?,
-        unit: Bytes::from_slice(alloc, b"Signal")?,
-        place: line(1),
-        var: VarNo(2),
-    })
-}
-
-fn package(alloc: Global) -> Package {
-    Package {
-        name: Bytes::new(alloc),
-        place: line(1),
-        has_states: true,
-        initial: None,
-        initial_place: None,
-    }
-}
 
 /// A contract as a table has it: whether it stands on a declaration of a package spec, and its items with their modes. The
 /// items stand at lines 11, 12 and so on.
@@ -153,10 +60,6 @@ fn contract_if(alloc: Global, listed: Option<Listed>) -> Result<Option<Contract>
     }
 }
 
-/// What the row of the body tells: whether it returns, and the leaves that it reads, writes and keeps, the first leaf being the
-/// lowest bit: two of X, Y, the clock and C. It does not speak of D.
-type Told = (bool, u64, u64, u64);
-
 #[derive(Clone, Copy)]
 struct Case {
     kind: BodyKind,
@@ -181,50 +84,6 @@ fn body(alloc: Global, case: &Case) -> Result<Body, NoMemory> {
         inner: contract_if(alloc, case.inner)?,
         in_spec: false,
     })
-}
-
-fn program(alloc: Global, case: &Case) -> Result<Program, NoMemory> {
-    Ok(Program {
-        leaves: leaves(alloc)?,
-        vars: variables(alloc)?,
-        items: Items::from_vec(Vec::from_array(alloc, ITEMS)?),
-        bodies: Items::from_vec(vec![in alloc; body(alloc, case)?]?),
-        packages: Items::from_vec(vec![in alloc; package(alloc)]?),
-        states: States {
-            list: Items::from_vec(vec![in alloc; state(alloc)?]?),
-        },
-        objects: Items::from_vec(vec![in alloc; object(alloc)?]?),
-        tasks: Items::new(alloc),
-        order: Items::new(alloc),
-        main: None,
-        stmts: Items::from_vec(vec![in alloc; CoreStmt::Back]?),
-        exprs: Items::new(alloc),
-        part_of: Items::new(alloc),
-        constituents: Items::new(alloc),
-        assignments: Items::new(alloc),
-    })
-}
-
-fn first_leaves(alloc: Global) -> Result<Items<LeafNo>, NoMemory>
-    ensures size { IfOk result (λ leaves. length leaves ≡ 5) }
-    ensures increasing { IfOk result (λ leaves. IsIncreasing leaves) }
-{
-    let mut leaves = Items::new(alloc);
-    for k in 0..5 {
-        leaves.push(LeafNo(k))?;
-    }
-    Ok(leaves)
-}
-
-fn rows(alloc: Global, told: Told) -> Result<Rows, NoMemory>
-    ensures rows { IfOk result (λ rows. AreRows rows) }
-    ensures bodies { IfOk result (λ rows. length rows.layout.outer ≡ 1) }
-{
-    let (may_return, reads, writes, keeps) = told;
-    let layout = Layout::new(alloc).with_row(first_leaves(alloc)?)?;
-    let mut rows = Rows::new(alloc, &layout)?;
-    rows.join(BodyNo(0), &[may_return as u64, reads, writes, keeps, 0]);
-    Ok(rows)
 }
 
 const PROCEDURE: Case = Case {
@@ -346,7 +205,9 @@ fn messages_on_globals(rt: HostRuntime) -> Result<(), Fail> {
     let alloc = rt.alloc();
     let names = vec![in alloc; String::from_str(alloc, "f")?]?;
     for case in &CASES {
-        let program = program(alloc, case)?;
+        let items = Items::from_vec(Vec::from_array(alloc, ITEMS)?);
+        let bodies = Items::from_vec(vec![in alloc; body(alloc, case)?]?);
+        let program = program(alloc, items, bodies)?;
         assert!(rt; well_formed(&program));
         assert!(rt; program.bodies.len() == 1);
         let rows = rows(alloc, case.told)?;

@@ -1,0 +1,11 @@
+//! Nothing but tests of what stands on rows alone: items and their leaves, used modes, and the messages on contracts.
+#![tactic(auto)]
+
+#[cfg(test)]
+mod global_tests;
+#[cfg(test)]
+mod item_tests;
+#[cfg(test)]
+mod mode_tests;
+#[cfg(test)]
+mod samples;
