@@ -6,22 +6,15 @@ use Rattle.spark_base.specs.declared.numbers.Pos.{Pos}
 use Rattle.spark_messages.specs.declared.messages.Code.TheVariants as codes
 use Rattle.ada_forms.specs.Forms.{Expr, Identifier, Selected}
 use Rattle.name_findings.specs.declared.findings.Mention.{Mention}
-use Rattle.name_findings.specs.Findings.{Finding, denotes_decl, refuse_mention, refuse_word}
+use Rattle.name_findings.specs.Findings.{Finding, refuse_mention, refuse_word}
 use Rattle.seen_types.specs.declared.seen.ExprType.{ExprType}
 use Rattle.seen_types.specs.Types.{is_limited, maybe_of, shape_of}
 use Rattle.seen_names.specs.declared.entities.Entity.{Entity}
 use Rattle.seen_names.specs.declared.entities.Entity.TheVariants.{Nothing, Package, Mark}
-use Rattle.seen_names.specs.declared.shown.Shown.{Shown}
 use Rattle.seen_names.specs.Contexts.{Context, sight_at, visible, member}
 use Rattle.seen_names.specs.Entities.{of_shown}
-
-abbrev pub mention : ExprNo → Pos → Mention
-mention e at = record { at = at; expr = e }
-
--- N01: the name is not visible; what is predefined has no declaration
-abbrev pub name_found : ExprNo → Pos → Option Shown → List Finding
-name_found e at None = refuse_word codes.N01 at e
-name_found e at (Some s) = denotes_decl e s.decl
+use Rattle.value_rules.specs.Names.{mention, name_found}
+use Rattle.value_rules.specs.Applications.{no_mark_found}
 
 -- behind a point stands a member of a package
 abbrev pub member_entity : Context → Mention → Name → Entity → Entity
@@ -57,11 +50,6 @@ mark_type _ = None
 -- the type that a mark denotes
 abbrev pub mark_of : Context → Expr → Option ExprType
 mark_of c t = mark_type (unit_entity c t)
-
-abbrev pub no_mark_found : Option Mention → Entity → List Finding
-no_mark_found m Nothing = []
-no_mark_found m (Mark t) = []
-no_mark_found m _ = refuse_mention codes.N01 m
 
 -- N01: a name in it is not visible, or it denotes no type
 abbrev pub mark_found : Context → Expr → List Finding

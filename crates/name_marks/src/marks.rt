@@ -10,39 +10,13 @@ ghost use Rattle.spark_messages.specs.declared.messages.Code.TheVariants.{N01, N
 use crate::prefixes::descend;
 use ada_forms::{ExprForm, expr_form};
 use ada_tree::Units;
-use name_findings::{Fault, Findings, Mention, Spelling};
-use seen_names::{Entity, Place, Shown, Tables, of_shown};
+use name_findings::{Findings, Mention};
+use seen_names::{Entity, Place, Tables, of_shown};
 use seen_types::ExprType;
-use spark_base::{ExprNo, Name, NoMemory, Pos};
+use spark_base::{ExprNo, Name, NoMemory};
 use spark_messages::Code;
 use std::alloc::Global;
-
-/// Refuses at the word that ends a name, if there is one.
-fn refuse_word(found: &mut Findings, code: Code, mention: Option<Mention>)
-    ensures { found.new ≡ add_all found.old (refuse_mention code mention) }
-{
-    if let Some(word) = mention {
-        found.refuse(Fault {
-            at: word.at,
-            code,
-            spelling: Spelling::Word(word.expr),
-        });
-    }
-}
-
-/// Tells what a name denotes, or refuses it.
-fn tell_name(found: &mut Findings, word: Mention, shown: Option<Shown>)
-    ensures { found.new ≡ add_all found.old (spec.name_found word.expr word.at shown) }
-{
-    match shown {
-        None => refuse_word(found, Code::N01, Some(word)),
-        Some(shown) => {
-            if let Some(decl) = shown.decl {
-                found.denote(word.expr, decl);
-            }
-        }
-    }
-}
+use value_rules::{refuse_mention, refuse_no_type, refuse_word, tell_name};
 
 /// The word that ends a name of words and points.
 fn word_of(units: &Units, e: ExprNo) -> Option<Mention>
@@ -74,11 +48,11 @@ fn member_of(
         Entity::Nothing => Entity::Nothing,
         Entity::Package(package) => {
             let shown = tables.member(place, package, name);
-            tell_name(found, word, shown);
+            tell_name(found, word.expr, word.at, shown);
             of_shown(word, shown)
         }
         _ => {
-            refuse_word(found, Code::N01, Some(word));
+            refuse_word(found, Code::N01, word);
             Entity::Nothing
         }
     }
@@ -105,7 +79,7 @@ fn read_over(
     match formed.form {
         ExprForm::Identifier(name) => {
             let shown = tables.visible(name);
-            tell_name(found, word, shown);
+            tell_name(found, word.expr, word.at, shown);
             of_shown(word, shown)
         }
         ExprForm::Selected { name, .. } => member_of(tables, place, found, word, name, prefix),
@@ -144,21 +118,12 @@ pub fn mark_type(entity: Entity) -> Option<ExprType>
     }
 }
 
-fn refuse_no_mark(found: &mut Findings, word: Option<Mention>, entity: Entity)
-    ensures { found.new ≡ add_all found.old (spec.no_mark_found word entity) }
-{
-    match entity {
-        Entity::Nothing | Entity::Mark(_) => (),
-        _ => refuse_word(found, Code::N01, word),
-    }
-}
-
 fn refuse_no_package(found: &mut Findings, word: Option<Mention>, entity: Entity)
     ensures { found.new ≡ add_all found.old (spec.no_package_found word entity) }
 {
     match entity {
         Entity::Nothing | Entity::Package(_) => (),
-        _ => refuse_word(found, Code::N01, word),
+        _ => refuse_mention(found, Code::N01, word),
     }
 }
 
@@ -177,7 +142,7 @@ pub fn read_mark(
     ensures found { OnOk result (found.new ≡ add_all found.old (spec.mark_found (context tables.now place) (expr_of units.now.exprs e))) }
 {
     let entity = read_unit(alloc, units, tables, place, found, e)?;
-    refuse_no_mark(found, word_of(units, e), entity);
+    refuse_no_type(found, word_of(units, e), entity);
     Ok(mark_type(entity))
 }
 
@@ -212,7 +177,7 @@ fn refuse_limited(found: &mut Findings, is_limited: bool, word: Option<Mention>)
     ensures { found.new ≡ add_all found.old (if is_limited then refuse_mention N10 word else []) }
 {
     if is_limited {
-        refuse_word(found, Code::N10, word);
+        refuse_mention(found, Code::N10, word);
     }
 }
 

@@ -9,7 +9,7 @@ use Rattle.seen_names.specs.Entities.{type_in}
 use Rattle.seen_names.specs.declared.applications.Application.{Application}
 use Rattle.seen_names.specs.declared.applications.Application.TheVariants as applications
 use Rattle.seen_names.specs.declared.entities.Entity.{Entity}
-use Rattle.seen_names.specs.declared.entities.Entity.TheVariants.{Nothing}
+use Rattle.seen_names.specs.declared.entities.Entity.TheVariants.{Mark, Nothing}
 use Rattle.spark_base.specs.declared.numbers.Pos.{Pos}
 use Rattle.spark_base.specs.declared.numbers.TypeNo.{TypeNo}
 use Rattle.spark_messages.specs.declared.messages.Code.TheVariants as codes
@@ -20,6 +20,12 @@ use Rattle.value_rules.specs.Statics.{applied_faults}
 abbrev pub only_entity : List Entity → Entity
 only_entity (a ∷ []) = a
 only_entity _ = Nothing
+
+-- N01: what stands for no type
+abbrev pub no_mark_found : Option Mention → Entity → List Finding
+no_mark_found m Nothing = []
+no_mark_found m (Mark t) = []
+no_mark_found m _ = refuse_mention codes.N01 m
 
 -- what the whole stands for: whether there is one argument that is a plain value, whether the arguments are not those that are
 -- asked for, and what the one stands for

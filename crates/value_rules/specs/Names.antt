@@ -7,7 +7,6 @@ use Rattle.value_rules.specs.Tellings.{denotes, has_type}
 use Rattle.name_findings.specs.Findings.{Finding, denotes_decl, refuse_if, refuse_silent, refuse_word}
 use Rattle.name_findings.specs.declared.findings.Mention.{Mention}
 use Rattle.name_findings.specs.declared.findings.Spelling.TheVariants as spelled
-use Rattle.name_marks.specs.Marks.{mention, name_found}
 use Rattle.seen_names.specs.Contexts.{Context, visible}
 use Rattle.seen_names.specs.Entities.{as_value, is_function, of_shown, selected, selection, type_in}
 use Rattle.seen_names.specs.declared.entities.Entity.{Entity}
@@ -15,12 +14,21 @@ use Rattle.seen_names.specs.declared.entities.Entity.TheVariants.{Called, Clock,
 use Rattle.seen_names.specs.declared.selections.Selection.{Selection}
 use Rattle.seen_names.specs.declared.selections.Selection.TheVariants.{Component, InPackage, NoComponent, OfNothing, Operation}
 use Rattle.seen_names.specs.declared.shown.Callable.{Callable}
+use Rattle.seen_names.specs.declared.shown.Shown.{Shown}
 use Rattle.seen_names.specs.declared.shown.Subprogram.{Subprogram}
 use Rattle.seen_names.specs.declared.shown.Subprogram.TheVariants as forms
 use Rattle.spark_base.specs.declared.name.Name.{Name}
 use Rattle.spark_base.specs.declared.numbers.ExprNo.{ExprNo}
 use Rattle.spark_base.specs.declared.numbers.Pos.{Pos}
 use Rattle.spark_messages.specs.declared.messages.Code.TheVariants as codes
+
+abbrev pub mention : ExprNo → Pos → Mention
+mention e at = record { at = at; expr = e }
+
+-- N01: the name is not visible; what is predefined has no declaration
+abbrev pub name_found : ExprNo → Pos → Option Shown → List Finding
+name_found e at None = refuse_word codes.N01 at e
+name_found e at (Some s) = denotes_decl e s.decl
 
 -- what a name at a place stands for that begins there, and what behind a prefix and a point
 

@@ -1,7 +1,6 @@
 //! What arguments in parentheses make of a prefix, and what they break.
 ghost use Rattle.std.specs.Prelude.{◌≡◌, OnOk};
 ghost use Rattle.name_findings.specs.Findings.{add_all};
-ghost use Rattle.name_marks.specs.Marks.{no_mark_found};
 ghost use Rattle.seen_names.specs.Contexts.{context};
 ghost use Rattle.value_rules.specs.Applications as spec;
 
@@ -133,9 +132,9 @@ pub fn refuse_product_faults(
     }
 }
 
-/// What stands before the value of a qualified expression, and denotes no type (N01).
+/// Refuses (N01) what stands for no type, as before the value of a qualified expression.
 pub fn refuse_no_type(found: &mut Findings, word: Option<Mention>, mark: Entity)
-    ensures { found.new ≡ add_all found.old (no_mark_found word mark) }
+    ensures { found.new ≡ add_all found.old (spec.no_mark_found word mark) }
 {
     match mark {
         Entity::Nothing | Entity::Mark(_) => (),

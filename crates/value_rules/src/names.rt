@@ -4,8 +4,6 @@ ghost use Rattle.std.specs.Option.{option_copied};
 ghost use Rattle.ada_forms.specs.Forms.{expr_of};
 ghost use Rattle.value_rules.specs.Names as spec;
 ghost use Rattle.name_findings.specs.Findings.{add_all};
-ghost use Rattle.name_marks.specs.Marks as marks;
-ghost use Rattle.name_marks.specs.Marks.{name_found};
 ghost use Rattle.seen_names.specs.Contexts.{context};
 
 use crate::tellings::{refuse_silent, refuse_word, tell_decl, tell_shown, tell_type};
@@ -19,7 +17,7 @@ use spark_base::{ExprNo, Name, Pos};
 use spark_messages::Code;
 
 fn mention(e: ExprNo, at: Pos) -> Mention
-    ensures { result ≡ marks.mention e at }
+    ensures { result ≡ spec.mention e at }
 {
     Mention { at, expr: e }
 }
@@ -47,7 +45,7 @@ pub fn selected_entity(
 
 /// Tells what a name denotes, or refuses it (N01).
 pub fn tell_name(found: &mut Findings, e: ExprNo, at: Pos, shown: Option<Shown>)
-    ensures { found.new ≡ add_all found.old (name_found e at shown) }
+    ensures { found.new ≡ add_all found.old (spec.name_found e at shown) }
 {
     match shown {
         None => refuse_word(found, Code::N01, mention(e, at)),
