@@ -8,12 +8,12 @@ use Rattle.ada_forms.specs.Forms.{Expr, Identifier, Selected}
 use Rattle.name_findings.specs.declared.findings.Mention.{Mention}
 use Rattle.name_findings.specs.Findings.{Finding, refuse_mention, refuse_word}
 use Rattle.seen_types.specs.declared.seen.ExprType.{ExprType}
-use Rattle.seen_types.specs.Types.{is_limited, maybe_of, shape_of}
+use Rattle.seen_types.specs.Types.{is_limited, shape_of}
 use Rattle.seen_names.specs.declared.entities.Entity.{Entity}
-use Rattle.seen_names.specs.declared.entities.Entity.TheVariants.{Nothing, Package, Mark}
+use Rattle.seen_names.specs.declared.entities.Entity.TheVariants.{Nothing, Package}
 use Rattle.seen_names.specs.Contexts.{Context, sight_at, visible, member}
 use Rattle.seen_names.specs.Entities.{of_shown}
-use Rattle.value_rules.specs.Names.{mention, name_found}
+use Rattle.value_rules.specs.Names.{mark_type, mention, name_found}
 use Rattle.value_rules.specs.Applications.{no_mark_found}
 
 -- behind a point stands a member of a package
@@ -42,10 +42,6 @@ abbrev pub word_of : Expr → Option Mention
 word_of (Identifier e at name) = Some (mention e at)
 word_of (Selected e at name prefix) = Some (mention e at)
 word_of _ = None
-
-abbrev pub mark_type : Entity → Option ExprType
-mark_type (Mark t) = maybe_of t
-mark_type _ = None
 
 -- the type that a mark denotes
 abbrev pub mark_of : Context → Expr → Option ExprType

@@ -6,4 +6,4 @@ mod prefixes;
 #[cfg(test)]
 mod tests;
 
-pub use marks::{mark_type, read_mark, read_part_mark, read_unit, read_use};
+pub use marks::{read_mark, read_part_mark, read_unit, read_use};

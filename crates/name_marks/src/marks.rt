@@ -16,7 +16,7 @@ use seen_types::ExprType;
 use spark_base::{ExprNo, Name, NoMemory};
 use spark_messages::Code;
 use std::alloc::Global;
-use value_rules::{refuse_mention, refuse_no_type, refuse_word, tell_name};
+use value_rules::{mark_type, refuse_mention, refuse_no_type, refuse_word, tell_name};
 
 /// The word that ends a name of words and points.
 fn word_of(units: &Units, e: ExprNo) -> Option<Mention>
@@ -106,16 +106,6 @@ pub fn read_unit(
         entity = read_over(units, tables, place, found, next, entity);
     }
     Ok(entity)
-}
-
-/// The type that a mark denotes, by what its name stands for.
-pub fn mark_type(entity: Entity) -> Option<ExprType>
-    ensures { result ≡ spec.mark_type entity }
-{
-    match entity {
-        Entity::Mark(Some(t)) => Some(ExprType::Of(t)),
-        _ => None,
-    }
 }
 
 fn refuse_no_package(found: &mut Findings, word: Option<Mention>, entity: Entity)

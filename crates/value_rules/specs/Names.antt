@@ -17,6 +17,8 @@ use Rattle.seen_names.specs.declared.shown.Callable.{Callable}
 use Rattle.seen_names.specs.declared.shown.Shown.{Shown}
 use Rattle.seen_names.specs.declared.shown.Subprogram.{Subprogram}
 use Rattle.seen_names.specs.declared.shown.Subprogram.TheVariants as forms
+use Rattle.seen_types.specs.Types.{maybe_of}
+use Rattle.seen_types.specs.declared.seen.ExprType.{ExprType}
 use Rattle.spark_base.specs.declared.name.Name.{Name}
 use Rattle.spark_base.specs.declared.numbers.ExprNo.{ExprNo}
 use Rattle.spark_base.specs.declared.numbers.Pos.{Pos}
@@ -29,6 +31,11 @@ mention e at = record { at = at; expr = e }
 abbrev pub name_found : ExprNo → Pos → Option Shown → List Finding
 name_found e at None = refuse_word codes.N01 at e
 name_found e at (Some s) = denotes_decl e s.decl
+
+-- the type that a mark denotes
+abbrev pub mark_type : Entity → Option ExprType
+mark_type (Mark t) = maybe_of t
+mark_type _ = None
 
 -- what a name at a place stands for that begins there, and what behind a prefix and a point
 

@@ -22,8 +22,8 @@ pub use branches::{
 };
 pub use laws::{a_bad_branch_spoils_the_whole, a_refused_operand_is_told_once};
 pub use names::{
-    named_entity, refuse_call, selected_entity, take_at, take_bearer, take_prefix, tell_name,
-    tell_selection,
+    mark_type, named_entity, refuse_call, selected_entity, take_at, take_bearer, take_prefix,
+    tell_name, tell_selection,
 };
 pub use operators::{
     Operand, binary, in_range, meant_within, refuse_binary, refuse_in_range, refuse_unary,

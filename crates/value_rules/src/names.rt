@@ -13,6 +13,7 @@ use name_findings::{Findings, Mention, Spelling, refuse_if};
 use seen_names::{
     Callable, Entity, Place, Selection, Shown, Subprogram, Tables, of_shown, selected, type_in,
 };
+use seen_types::ExprType;
 use spark_base::{ExprNo, Name, Pos};
 use spark_messages::Code;
 
@@ -41,6 +42,16 @@ pub fn selected_entity(
     ensures { result ≡ spec.selected_entity (context tables.now place) e at name.now prefix }
 {
     selected(mention(e, at), tables.selection(place, name, prefix))
+}
+
+/// The type that a mark denotes, by what its name stands for.
+pub fn mark_type(entity: Entity) -> Option<ExprType>
+    ensures { result ≡ spec.mark_type entity }
+{
+    match entity {
+        Entity::Mark(Some(t)) => Some(ExprType::Of(t)),
+        _ => None,
+    }
 }
 
 /// Tells what a name denotes, or refuses it (N01).
