@@ -1,5 +1,5 @@
 -- Lists of bodies by body, and marks of bodies.
-use Rattle.std.specs.Prelude.{◌≡◌, ℕ, ◌<◌, All, Bool, true, false, List, [], Some, slice_get, slice_index_or, length}
+use Rattle.std.specs.Prelude.{◌≡◌, ℕ, ◌<◌, All, Bool, true, false, List, Some, slice_get, slice_index_or, length}
 use Rattle.spark_base.specs.declared.numbers.BodyNo.{BodyNo}
 
 -- the element at a place of the list is this body

@@ -19,7 +19,7 @@ pub fn callers_of(alloc: Global, callees: &[Items<BodyNo>]) -> Result<Vec<Items<
     Ok(callers)
 }
 
-fn empty_lists(alloc: Global, bodies: u32) -> Result<Vec<Items<BodyNo>>, NoMemory>
+pub(crate) fn empty_lists(alloc: Global, bodies: u32) -> Result<Vec<Items<BodyNo>>, NoMemory>
     ensures lists { IfOk result (λ v. AreLists bodies v.items) }
     ensures empty { IfOk result (λ v. (c b : ℕ) → Names (slice_index_or v.items c []) b → ⊥) }
 {
@@ -50,7 +50,11 @@ fn add_caller(
     Ok(())
 }
 
-fn add_one(caller: BodyNo, callee: BodyNo, lists: &mut Vec<Items<BodyNo>>) -> Result<(), NoMemory>
+pub(crate) fn add_one(
+    caller: BodyNo,
+    callee: BodyNo,
+    lists: &mut Vec<Items<BodyNo>>,
+) -> Result<(), NoMemory>
     requires callee { callee.0 < length lists.old.items }
     requires lists { AreLists (length lists.old.items) lists.old.items }
     requires caller { caller.0 < length lists.old.items }

@@ -1,17 +1,17 @@
 -- What one visit of a body does to the state of the solver.
-use Rattle.std.proofs.Common.{◌≡◌, ℕ, ◌+◌, ◌-◌, ◌*◌, ◌<◌, ◌≤◌, ◌⊎◌, ◌↔◌, Bool, true, false, IsTrue, List, [], length, get_or, get_or-set_other, refl, inl, inr, arith, sym, ap, subst, ◌∙◌}
+use Rattle.std.proofs.Common.{◌≡◌, ℕ, ◌<◌, ◌⊎◌, ◌↔◌, Bool, true, false, IsTrue, List, [], length, get_or-set_other, refl, inl, inr, arith, sym, ap, subst, ◌∙◌}
 use Rattle.std.specs.Prelude.{slice_index_or}
 use Rattle.std.proofs.Math.ListN.{set}
 use Rattle.std.proofs.lemmas.Bool.{false≢true, cases_Bool, cases_eq, cases_lt}
 use Rattle.std.proofs.lemmas.List.{get_or_past}
 use Rattle.spark_base.specs.declared.numbers.BodyNo.{BodyNo}
-use Rattle.least_solution.specs.Least.{Among, least, tally, Passes, IsReached, IsMet, IsListed, SeesCallees, Grows}
+use Rattle.least_solution.specs.Least.{least, Passes, IsReached, IsMet, IsListed, Grows}
 use Rattle.least_solution.proofs.Worklist as worklist
 use Rattle.summary_rows.specs.declared.layout.Layout.{Layout}
 use Rattle.summary_rows.specs.declared.rows.Rows.{Rows}
 use Rattle.summary_rows.specs.Bits.{Bit}
 use Rattle.summary_rows.specs.Facts.{Part, Fact}
-use Rattle.summary_rows.specs.Layout.{Stands, RowTells, IsTidyRow, GainsFact, AreRows, IsTidy, IsLayout, outer_of, facts, told}
+use Rattle.summary_rows.specs.Layout.{Stands, RowTells, IsTidyRow, GainsFact, AreRows, IsTidy, outer_of, facts, told}
 use Rattle.summary_rows.proofs.Listed.{stands_listed, facts_listed, same_part}
 use Rattle.summary_rows.proofs.Places.{one_part}
 use Rattle.call_lists.specs.Lists.{Names, Has}

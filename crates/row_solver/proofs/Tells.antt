@@ -1,5 +1,5 @@
 -- The test whether rows tell a fact.
-use Rattle.std.proofs.Common.{◌≡◌, ℕ, zero, suc, ◌+◌, ◌*◌, ◌/◌, ◌%◌, ◌<◌, ◌↔◌, Bool, true, false, ◌&&◌, ◌||◌, List, [], ◌∷◌, Some, None, length, refl, inl, inr, arith, sym, ap, subst, ◌∙◌}
+use Rattle.std.proofs.Common.{◌≡◌, ℕ, zero, suc, ◌+◌, ◌*◌, ◌/◌, ◌%◌, ◌↔◌, Bool, true, ◌&&◌, List, [], ◌∷◌, Some, None, length, refl, inl, inr, arith, sym, ap, subst, ◌∙◌}
 use Rattle.std.specs.Prelude.{nat_eq, nat_lt, slice_get}
 use Rattle.std.specs.Int.{bit_at}
 use Rattle.std.proofs.lemmas.Bool.{false≢true, and_parts, and_from, or_cases, or_left, or_right, lt-ltb, ltb-true, eq-eqb, eqb-true}

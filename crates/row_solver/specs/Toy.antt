@@ -1,5 +1,5 @@
 -- An equation for tests, on rows of no leaves, and that it is one.
-use Rattle.std.proofs.Common.{◌≡◌, ℕ, ◌<◌, ◌⊎◌, inl, inr, All, Bool, List, [], length, refl, subst, sym}
+use Rattle.std.proofs.Common.{◌≡◌, ℕ, ◌<◌, ◌⊎◌, inl, inr, Bool, List, [], length, refl, subst, sym}
 use Rattle.std.specs.Prelude.{slice_index_or}
 use Rattle.spark_base.specs.declared.numbers.BodyNo.{BodyNo}
 use Rattle.summary_rows.specs.declared.layout.Layout.{Layout}

@@ -1,4 +1,4 @@
-ghost use Rattle.std.specs.Prelude.{◌≡◌, ℕ, ◌+◌, ◌<◌, ◌≤◌, ◌^◌, ◌⊎◌, ◌↔◌, All, length, IfOk, IsTrue, slice_index_or, []};
+ghost use Rattle.std.specs.Prelude.{◌≡◌, ℕ, ◌+◌, ◌<◌, ◌≤◌, ◌^◌, ◌⊎◌, ◌↔◌, ◌||◌, All, length, IfOk, IsTrue, slice_index_or, []};
 ghost use Rattle.summary_rows.specs.Bits.{Bit};
 ghost use Rattle.summary_rows.specs.Facts.{Returning};
 ghost use Rattle.summary_rows.specs.Layout.{IsLayout, AreRows, told, outer_of};
@@ -35,8 +35,10 @@ impl RowEquations for Toy {
 
     fn row_words(&self, alloc: Global, b: BodyNo, rows: &Rows) -> Result<Words, NoMemory> {
         let mine = *self.own.at(b.0 as usize);
-        let others = any_returns(self.callees.at(b.0 as usize).as_slice(), rows);
-        one_word(alloc, mine || others)
+        let callees = self.callees.at(b.0 as usize);
+        let others = any_returns(callees.as_slice(), rows);
+        let words = one_word(alloc, either(mine, others))?;
+        Ok(words)
     }
 }
 
@@ -54,14 +56,24 @@ fn any_returns(list: &[BodyNo], rows: &Rows) -> bool
     false
 }
 
+fn either(one: bool, other: bool) -> bool
+    ensures { result ≡ (one || other) }
+{
+    one || other
+}
+
 // A word of which the first bit alone may be set.
+#[tactic(auto, using(crate::proofs::Toy::bit_of_one))]
 fn one_word(alloc: Global, bit: bool) -> Result<Words, NoMemory>
     ensures size { IfOk result (λ words. length words ≡ 1) }
     ensures bits { IfOk result (λ words. (n : ℕ) → Bit words n ↔ ((n ≡ 0) × IsTrue bit)) }
 {
-    let word = bit as u64;
-    let words = vec![in alloc; word; 1]?;
-    Ok(Words::from_vec(words))
+    if bit {
+        let words = vec![in alloc; 1u64; 1]?;
+        Ok(Words::from_vec(words))
+    } else {
+        Words::zeros(alloc, 1)
+    }
 }
 
 // So many rows without leaves.

@@ -1,4 +1,4 @@
-use Rattle.std.proofs.Common.{◌≡◌, ℕ, ◌⊎◌, List, length, get_or, arith, subst, sym, ◌∙◌, inl, inr}
+use Rattle.std.proofs.Common.{◌≡◌, ℕ, List, get_or, arith, subst, sym, ◌∙◌}
 use Rattle.spark_base.specs.declared.numbers.BodyNo.{BodyNo}
 use Rattle.call_lists.specs.Lists.{AreLists}
 use Rattle.call_lists.proofs.Names.{caller_step, names_within}

@@ -1,4 +1,4 @@
-use Rattle.std.proofs.Common.{List, arith, subst}
+use Rattle.std.proofs.Common.{List, subst}
 use Rattle.spark_base.specs.declared.numbers.BodyNo.{BodyNo}
 use Rattle.call_lists.specs.Lists.{Names}
 use Rattle.call_lists.proofs.order.order_of.Goals as goal

@@ -15,8 +15,8 @@ settle_all-requires-clause-solving g c =
     let bodies = c.requires.lists.size in
     subst (λ (dirty : List Bool). IsSolving (e.layout it) (e.follow it) c.in_ok-rows.rows dirty) (sym c.as_mut_slice.ensures.value)
     (started (e.layout it) (e.calls it) (e.follow it) (e.lawful it c.requires.fit) c.in_ok-rows.rows c.in_ok-dirty.dirty.items
-        (new.layout ∙ sym c.requires.same) new.rows new.tidy new.empty (size ∙ bodies)
-        (λ b l. c.in_ok-dirty.ensures.all b (omega (arith, bodies, l))))
+    (new.layout ∙ sym c.requires.same) new.rows new.tidy new.empty (size ∙ bodies)
+    (λ b l. c.in_ok-dirty.ensures.all b (omega (arith, bodies, l))))
 
 pub returns-clause-least : goal.returns-clause-least
 returns-clause-least g c = λ f.

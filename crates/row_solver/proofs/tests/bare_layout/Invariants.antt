@@ -1,4 +1,4 @@
-use Rattle.std.proofs.Common.{◌≡◌, ℕ, ◌≤◌, length, []}
+use Rattle.std.proofs.Common.{◌≡◌, ℕ, length, []}
 use Rattle.summary_rows.specs.Layout.{IsLayout, outer_of}
 use Rattle.row_solver.proofs.tests.bare_layout.Given as goal
 
