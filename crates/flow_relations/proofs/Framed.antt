@@ -56,7 +56,7 @@ module _ (n : ℕ) where
   }
 
   module _ (x : ℕ) (m : x < n) where
-    moving_bounded : (from : ℕ → Type 0) → IsBounded n (moving n x from)
+    pub moving_bounded : (from : ℕ → Type 0) → IsBounded n (moving n x from)
     moving_bounded from = record {
       writes = λ i e. omega arith;
       kept = λ o i j h. (let e = h.1.1 in let l = h.1.0 in omega arith);
@@ -132,7 +132,7 @@ module _ (name place : ℕ → ℕ) (n void : ℕ) (naming : IsNaming name place
     λ t. (let w = within v t in (w.0, (w.1.0, w.1.1, (numbers w.0 w.1.0).1 (subst T (sym w.1.1) t)))),
   )
 
-  leaf_spread : (x : ℕ) → Inside x → (v : ℕ) → Told (λ i. i ≡ place x) v ↔ (v ≡ x)
+  pub leaf_spread : (x : ℕ) → Inside x → (v : ℕ) → Told (λ i. i ≡ place x) v ↔ (v ≡ x)
   leaf_spread x k v = (
     λ h. sym h.1.1 ∙ (ap name h.1.2 ∙ k.leaf),
     λ e. (let l = k.number in (place x, (omega arith, k.leaf ∙ sym e, refl))),
@@ -147,7 +147,7 @@ module _ (name place : ℕ → ℕ) (n void : ℕ) (naming : IsNaming name place
     ],
   )
 
-  none_spread : (v : ℕ) → Told (λ i. ⊥) v ↔ ⊥
+  pub none_spread : (v : ℕ) → Told (λ i. ⊥) v ↔ ⊥
   none_spread v = (λ h. h.1.2, λ h. absurd h)
 
   mutual
@@ -197,7 +197,7 @@ module _ (name place : ℕ → ℕ) (n void : ℕ) (naming : IsNaming name place
   -- One statement
 
   module _ (out : Outcome) (from : ℕ → Type 0) where
-    reading_spread : IsSame (spread name n void (reading n out from)) (reading void out (Told from))
+    pub reading_spread : IsSame (spread name n void (reading n out from)) (reading void out (Told from))
     reading_spread = record {
       reads = λ v. (λ h. h, λ h. h);
       writes = none_spread;
@@ -340,7 +340,7 @@ module _ (name place : ℕ → ℕ) (n void : ℕ) (naming : IsNaming name place
   -- Code
 
   -- what an expression reads is inside, and so is the place that is set
-  setting_spread : (to : Spot) (from : ℕ → Type 0) (S : ℕ → Type 0) → ((v : ℕ) → reads_of_spot to v → Inside v) → ((v : ℕ) → Told from v ↔ S v)
+  pub setting_spread : (to : Spot) (from : ℕ → Type 0) (S : ℕ → Type 0) → ((v : ℕ) → reads_of_spot to v → Inside v) → ((v : ℕ) → Told from v ↔ S v)
       → IsSame (spread name n void (setting n (renamed_spot place to) from)) (setting void to S)
   setting_spread (At leaf part true cells) from S h s =
       same_through _ _ _ (moving_spread leaf (h leaf (inl refl)) _)
@@ -349,11 +349,11 @@ module _ (name place : ℕ → ℕ) (n void : ℕ) (naming : IsNaming name place
       same_through _ _ _ (changing_spread leaf (h leaf (inl refl)) _)
       (changing_same void leaf _ _ (λ v. either_spread from (reads_of_all (renamed_all place part)) S (reads_of_all part) v (s v) (all_spread part (λ u y. h u (inr y)) v)))
 
-  setting_bounded : (to : Spot) (from : ℕ → Type 0) → ((v : ℕ) → reads_of_spot to v → Inside v) → IsBounded n (setting n (renamed_spot place to) from)
+  pub setting_bounded : (to : Spot) (from : ℕ → Type 0) → ((v : ℕ) → reads_of_spot to v → Inside v) → IsBounded n (setting n (renamed_spot place to) from)
   setting_bounded (At leaf part true cells) from h = moving_bounded n (place leaf) (h leaf (inl refl)).number _
   setting_bounded (At leaf part false cells) from h = changing_bounded n (place leaf) (h leaf (inl refl)).number _
 
-  reading_same : (out : Outcome) (S T : ℕ → Type 0) → ((v : ℕ) → S v ↔ T v) → IsSame (reading void out S) (reading void out T)
+  pub reading_same : (out : Outcome) (S T : ℕ → Type 0) → ((v : ℕ) → S v ↔ T v) → IsSame (reading void out S) (reading void out T)
   reading_same out S T t = record {
     reads = t;
     writes = λ v. (λ y. y, λ y. y);

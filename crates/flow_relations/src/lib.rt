@@ -1,6 +1,7 @@
 //! The flow of a statement, the row of a body, and the sets and relations that tell them.
 #![tactic(auto)]
 
+mod calls;
 mod equation;
 mod flows;
 mod frame;
