@@ -2,16 +2,17 @@
 use Rattle.std.proofs.Common.{◌≡◌, ℕ, zero, suc, ◌+◌, ◌-◌, ◌<◌, ◌≤◌, ◌⊎◌, ◌↔◌, inl, inr, Bool, true, false, cond, List, [], ◌∷◌, length, nat_eq, refl, sym, ap, subst, ◌∙◌, arith}
 use Rattle.std.proofs.Math.Dec.{ltb}
 use Rattle.std.proofs.lemmas.Bool.{cases_lt, lt-ltb, le-ltb}
+use Rattle.std.proofs.lemmas.Bool.Decides.{nat_tests}
 use Rattle.spark_base.specs.declared.numbers.LeafNo.{LeafNo}
-use Rattle.core_form.specs.Code.{Outcome, Next, Expr, Exprs, Nothing, And, Spot, Spots, NoSpot, AndSpot, Actuals, NoActual, AndActual}
-use Rattle.flow_facts.specs.Flow.{Flow, IsSame, Summary, leaving, moving, reads_of, reads_of_all, reads_of_spot, seq, setting}
+use Rattle.core_form.specs.Code.{Next, Expr, Exprs, Nothing, And, Spot, Spots, NoSpot, AndSpot, Actuals, NoActual, AndActual}
+use Rattle.flow_facts.specs.Flow.{Flow, IsSame, Summary, leaving, moving, reads_of, reads_of_all, reads_of_spot, setting}
 use Rattle.flow_facts.proofs.Same.{moving_same, same_through, seq_same}
 use Rattle.call_flow.specs.declared.signatures.Signature.{Signature}
 use Rattle.call_flow.specs.Calls.{IsAside, Standing, StandingPairs, actuals_in, actuals_out, calling, dropped, knowing, passing_at, spots_out, stands, up, values_in}
 use Rattle.flow_relations.specs.Equation.{names_of_actuals, names_of_spots}
 use Rattle.flow_relations.specs.Framing.{IsInside, IsOutside, Spreads, SpreadsAll, spread}
 use Rattle.flow_relations.specs.Renamed.{renamed, renamed_actuals, renamed_all, renamed_spot, renamed_spots}
-use Rattle.flow_relations.proofs.Alike.{all_alike, expr_alike, spot_alike}
+use Rattle.flow_relations.proofs.Alike.{expr_alike, spot_alike}
 use Rattle.flow_relations.proofs.Chains.{dropped_same}
 use Rattle.flow_relations.proofs.Framed.{IsNaming, leaf_spread, moving_bounded, moving_spread, none_spread, pairs_spread, reading_same, reading_spread, reads_spread, setting_bounded, setting_spread}
 use Rattle.flow_relations.proofs.Spread.{IsBounded, seq_spread}
@@ -29,10 +30,10 @@ extended_behind f n m j =
     let e : (n + j) - n ≡ j = omega arith in
     rw (le-ltb (n + j) n past, e) refl
 
-up_last : (void big : ℕ) → up void big void ≡ big
+pub up_last : (void big : ℕ) → up void big void ≡ big
 up_last void big = let e : nat_eq void void ≡ true = grind (arith, nat_tests) in rw e refl
 
-up_front : (void big v : ℕ) → v < void → up void big v ≡ v
+pub up_front : (void big v : ℕ) → v < void → up void big v ≡ v
 up_front void big v l = let e : nat_eq v void ≡ false = grind (arith, nat_tests) in rw e refl
 
 module _ (name place : ℕ → ℕ) (n void own : ℕ) (naming : IsNaming name place n void) where
@@ -200,34 +201,41 @@ module _ (name place : ℕ → ℕ) (n void own : ℕ) (naming : IsNaming name p
     leaf f = stands (λ v. v) void leaves f
 
     module _ (fits : length leaves ≤ own) (inside : (f : ℕ) → k.leaves f → leaf f ≡ f → Inside f) where
-      passed_or_not : (xs : List LeafNo) (i a b f : ℕ) → a ≡ n + i → b ≡ void + i → i + length xs ≤ own
-          → ((j : ℕ) × ((j < own) × ((stands place a xs f ≡ n + j) × (stands (λ v. v) b xs f ≡ void + j)))) ⊎ ((stands place a xs f ≡ place f) × (stands (λ v. v) b xs f ≡ f))
+      -- the names of a leaf, where the first of these has the numbers a and b
+      abbrev IsPassedOrNot : List LeafNo → ℕ → ℕ → ℕ → Type 0
+      IsPassedOrNot xs a b f =
+          ((j : ℕ) × ((j < own) × ((stands place a xs f ≡ n + j) × (stands (λ v. v) b xs f ≡ void + j)))) ⊎ ((stands place a xs f ≡ place f) × (stands (λ v. v) b xs f ≡ f))
+
+      passed_or_not : (xs : List LeafNo) (i a b f : ℕ) → a ≡ n + i → b ≡ void + i → i + length xs ≤ own → IsPassedOrNot xs a b f
       passed_or_not [] i a b f p q l = inr (refl, refl)
-      passed_or_not (x ∷ xs) i a b f p q l = cases (nat_eq x.0 f) refl
+      passed_or_not (x ∷ xs) i a b f p q l =
+          let m : suc i + length xs ≤ own = omega (arith, l) in
+          let s : suc a ≡ n + suc i = omega (arith, p) in
+          let t : suc b ≡ void + suc i = omega (arith, q) in
+          cases (nat_eq x.0 f) refl (passed_or_not xs (suc i) (suc a) (suc b) f s t m)
         where
-          cases : (c : Bool) → nat_eq x.0 f ≡ c
-              → ((j : ℕ) × ((j < own) × ((stands place a (x ∷ xs) f ≡ n + j) × (stands (λ v. v) b (x ∷ xs) f ≡ void + j))))
-              ⊎ ((stands place a (x ∷ xs) f ≡ place f) × (stands (λ v. v) b (x ∷ xs) f ≡ f))
-          cases true e = inl (i, (
-            (let m : i < own = omega (arith, l) in m),
-            (ap (λ c. cond c a (stands place (suc a) xs f)) e ∙ p, ap (λ c. cond c b (stands (λ v. v) (suc b) xs f)) e ∙ q),
-          ))
-          cases false e =
+          cases : (c : Bool) → nat_eq x.0 f ≡ c → IsPassedOrNot xs (suc a) (suc b) f → IsPassedOrNot (x ∷ xs) a b f
+          cases true e h = inl (
+            i,
+            (
+              (let m : i < own = omega (arith, l) in m),
+              (ap (λ c. cond c a (stands place (suc a) xs f)) e ∙ p, ap (λ c. cond c b (stands (λ v. v) (suc b) xs f)) e ∙ q),
+            ),
+          )
+          cases false e h =
               let first = ap (λ c. cond c a (stands place (suc a) xs f)) e in
               let second = ap (λ c. cond c b (stands (λ v. v) (suc b) xs f)) e in
-              let m : suc i + length xs ≤ own = omega (arith, l) in
-              let s : suc a ≡ n + suc i = omega (arith, p) in
-              let t : suc b ≡ void + suc i = omega (arith, q) in
-              elim (passed_or_not xs (suc i) (suc a) (suc b) f s t m) [
-                | inl h ↦ inl (h.0, (h.1.0, (first ∙ h.1.1.0, second ∙ h.1.1.1)))
-                | inr h ↦ inr (first ∙ h.0, second ∙ h.1)
+              elim h [
+                | inl y ↦ inl (y.0, (y.1.0, (first ∙ y.1.1.0, second ∙ y.1.1.1)))
+                | inr y ↦ inr (first ∙ y.0, second ∙ y.1)
               ]
 
       known : (f : ℕ) → k.leaves f → CalledInside (leaf f) × (called_place (leaf f) ≡ number f)
       known f m =
           let zn : n ≡ n + 0 = omega arith in
           let zv : void ≡ void + 0 = omega arith in
-          elim (passed_or_not leaves 0 n void f zn zv fits) [
+          let all : 0 + length leaves ≤ own = omega (arith, fits) in
+          elim (passed_or_not leaves 0 n void f zn zv all) [
             | inl p ↦ (subst CalledInside (sym p.1.1.1) (own_inside p.0 p.1.0), ap (λ v. called_place v) p.1.1.1 ∙ (behind_place p.0 ∙ sym p.1.1.0))
             | inr q ↦ (let i = inside f m q.1 in (subst CalledInside (sym q.1) (front_inside f i), ap (λ v. called_place v) q.1 ∙ (front_place f i ∙ sym q.0)))
           ]
@@ -276,6 +284,12 @@ module _ (name place : ℕ → ℕ) (n void own : ℕ) (naming : IsNaming name p
               let b = depends f g h.1.1.1.1 in
               (f, (g, (sym (known f b.0).1 ∙ (ap (λ v. called_place v) h.1.1.0 ∙ called_places i l), (sym (known g b.1).1 ∙ (ap (λ v. called_place v) h.1.1.1.0 ∙ called_places j m), h.1.1.1.1)))),
         )
+
+        abbrev ByNumber : ℕ → ℕ → Type 0
+        ByNumber i j = StandingPairs number k.depends i j ⊎ ((i < n + own) × ((i ≡ j) × IsAside number k i))
+
+        abbrev ByLeaf : ℕ → ℕ → Type 0
+        ByLeaf v w = StandingPairs leaf k.depends v w ⊎ ((v < void + own) × ((v ≡ w) × IsAside leaf k v))
 
         knowing_spread : IsSame (Called (knowing (n + own) (λ f. number f) k)) (knowing (void + own) (λ f. leaf f) k)
         knowing_spread = record {
@@ -326,12 +340,6 @@ module _ (name place : ℕ → ℕ) (n void own : ℕ) (naming : IsNaming name p
             kept_back : (i : ℕ) → i ≤ n + own → Standing leaf k.keeps (called_name i) ⊎ IsAside leaf k (called_name i) → Standing number k.keeps i ⊎ IsAside number k i
             kept_back i l (inl s) = inl ((standing_at k.keeps keeps i l).1 s)
             kept_back i l (inr a) = inr ((aside_at i l).1 a)
-
-            abbrev ByNumber : ℕ → ℕ → Type 0
-            ByNumber i j = StandingPairs number k.depends i j ⊎ ((i < n + own) × ((i ≡ j) × IsAside number k i))
-
-            abbrev ByLeaf : ℕ → ℕ → Type 0
-            ByLeaf v w = StandingPairs leaf k.depends v w ⊎ ((v < void + own) × ((v ≡ w) × IsAside leaf k v))
 
             dep_there : (i j : ℕ) → i ≤ n + own → j ≤ n + own → ByNumber i j → ByLeaf (called_name i) (called_name j)
             dep_there i j l m (inl p) = inl ((pairs_at i j l m).0 p)
@@ -442,17 +450,22 @@ module _ (name place : ℕ → ℕ) (n void own : ℕ) (naming : IsNaming name p
         → ((v ≤ void) × (w ≤ void)) × SpreadsAll called_name (n + own) (void + own) R c (up void (void + own) v) (up void (void + own) w)
     kept_there (inl (i, (j, h))) = (
       (subst (λ x. x ≤ void) h.2 (most i h.0), subst (λ x. x ≤ void) h.3 (most j h.1)),
-      inl (up n (n + own) i, (up n (n + own) j, (
-        up_most i h.0,
-        up_most j h.1,
-        up_name i h.0 ∙ ap (λ x. up void (void + own) x) h.2,
-        up_name j h.1 ∙ ap (λ x. up void (void + own) x) h.3,
-        h.4.1,
-      ))),
+      inl (
+        up n (n + own) i,
+        (
+          up n (n + own) j,
+          (
+            up_most i h.0,
+            up_most j h.1,
+            up_name i h.0 ∙ ap (λ x. up void (void + own) x) h.2,
+            up_name j h.1 ∙ ap (λ x. up void (void + own) x) h.3,
+            h.4.1,
+          ),
+        ),
+      ),
     )
     kept_there (inr h) =
-        let l : v ≤ void = (let b = h.0.leaf in let z : v ≤ void = omega (arith, b) in z) in
-        (
+        let l : v ≤ void = (let b = h.0.leaf in let z : v ≤ void = omega (arith, b) in z) in (
           (l, subst (λ x. x ≤ void) h.2 l),
           inr (subst (λ x. IsOutside called_name (n + own) (void + own) x) (sym (up_front void (void + own) v h.0.leaf)) (outside_up v h.0), h.1, ap (λ x. up void (void + own) x) h.2),
         )
@@ -477,13 +490,19 @@ module _ (name place : ℕ → ℕ) (n void own : ℕ) (naming : IsNaming name p
     dep_there : SpreadsAll name n void (λ i j. ((i < n) × (j < n)) × R i j) c v w → ((v < void) × (w < void)) × SpreadsAll called_name (n + own) (void + own) R c v w
     dep_there (inl (i, (j, h))) = (
       (subst (λ x. x < void) h.2 (naming.below i h.4.0.0), subst (λ x. x < void) h.3 (naming.below j h.4.0.1)),
-      inl (i, (j, (
-        (let m = h.4.0.0 in let z : i ≤ n + own = omega (arith, m) in z),
-        (let m = h.4.0.1 in let z : j ≤ n + own = omega (arith, m) in z),
-        extended_front name n void i h.4.0.0 ∙ h.2,
-        extended_front name n void j h.4.0.1 ∙ h.3,
-        h.4.1,
-      ))),
+      inl (
+        i,
+        (
+          j,
+          (
+            (let m = h.4.0.0 in let z : i ≤ n + own = omega (arith, m) in z),
+            (let m = h.4.0.1 in let z : j ≤ n + own = omega (arith, m) in z),
+            extended_front name n void i h.4.0.0 ∙ h.2,
+            extended_front name n void j h.4.0.1 ∙ h.3,
+            h.4.1,
+          ),
+        ),
+      ),
     )
     dep_there (inr h) = ((h.0.leaf, subst (λ x. x < void) h.2 h.0.leaf), inr (outside_up v h.0, h.1, h.2))
 
@@ -491,13 +510,19 @@ module _ (name place : ℕ → ℕ) (n void own : ℕ) (naming : IsNaming name p
     dep_back (b, inl (i, (j, h))) =
         let l : i < n = below_own i (subst (λ x. x < void) (sym h.2) b.0) in
         let m : j < n = below_own j (subst (λ x. x < void) (sym h.3) b.1) in
-        inl (i, (j, (
-          (let z : i ≤ n = omega (arith, l) in z),
-          (let z : j ≤ n = omega (arith, m) in z),
-          sym (extended_front name n void i l) ∙ h.2,
-          sym (extended_front name n void j m) ∙ h.3,
-          ((l, m), h.4),
-        )))
+        inl (
+          i,
+          (
+            j,
+            (
+              (let z : i ≤ n = omega (arith, l) in z),
+              (let z : j ≤ n = omega (arith, m) in z),
+              sym (extended_front name n void i l) ∙ h.2,
+              sym (extended_front name n void j m) ∙ h.3,
+              ((l, m), h.4),
+            ),
+          ),
+        )
     dep_back (b, inr h) = inr (outside_down v b.0 h.0, h.1, h.2)
 
   dropped_spread : (f : Flow) → IsSame (spread name n void (dropped n (n + own) f)) (dropped void (void + own) (Called f))

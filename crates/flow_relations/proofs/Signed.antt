@@ -6,7 +6,6 @@ use Rattle.core_form.specs.declared.program.Formal.{Formal}
 use Rattle.core_form.specs.declared.program.Program.{Program}
 use Rattle.core_form.specs.declared.program.Var.{Var}
 use Rattle.call_flow.specs.declared.signatures.Passing.{Passing}
-use Rattle.call_flow.specs.Calls.{passing_at}
 use Rattle.callee_view.specs.Seen.{is_moved_back, is_moved_in}
 use Rattle.callee_view.specs.Signatures.{count_of, formals_at, leaves_of, passed_of, passings_of, signature_of}
 use Rattle.callee_view.proofs.Passed.{leaves_count}

@@ -1,11 +1,5 @@
-use Rattle.std.proofs.Common.{◌≡◌, suc, ◌+◌, ◌-◌, ◌<◌, length, ◌∷◌, drop, get_or, arith, ap, sym, ◌∙◌}
+use Rattle.std.proofs.Common.{◌≡◌, suc, ◌-◌, ◌<◌, length, ◌∷◌, drop, get_or, arith, ap, sym, ◌∙◌}
 use Rattle.std.proofs.Math.Seq.{drop-cons}
-use Rattle.core_form.specs.Code.{actuals_at, expr_of}
-use Rattle.flow_facts.specs.Flow.{IsSame}
-use Rattle.flow_facts.specs.Told.{told}
-use Rattle.call_flow.specs.Calls.{actuals_out}
-use Rattle.flow_relations.specs.Framing.{place_at}
-use Rattle.flow_relations.specs.Renamed.{renamed_actuals}
 use Rattle.flow_facts.proofs.Same.{same_through}
 use Rattle.flow_relations.proofs.Chains.{spots_same}
 use Rattle.flow_relations.proofs.calls.prepend_outs.Goals as goal
