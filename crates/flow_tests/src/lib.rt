@@ -2,8 +2,6 @@
 #![tactic(auto)]
 
 #[cfg(test)]
-mod call_tests;
-#[cfg(test)]
 mod frame_tests;
 #[cfg(test)]
 mod loop_tests;
