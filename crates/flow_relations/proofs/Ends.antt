@@ -1,5 +1,5 @@
 -- The ends of a flow, one outcome more at a time.
-use Rattle.std.proofs.Common.{◌≡◌, ◌≢◌, ℕ, zero, suc, ◌<◌, ◌≤◌, ◌⊎◌, ◌↔◌, inl, inr, Bool, true, false, List, [], ◌∷◌, ◌++◌, length, refl, sym, ap, subst, ◌∙◌, arith}
+use Rattle.std.proofs.Common.{◌≡◌, ℕ, zero, suc, ◌⊎◌, ◌↔◌, inl, inr, Bool, true, false, List, [], ◌∷◌, ◌++◌, length, refl, arith}
 use Rattle.std.specs.Prelude.{All, IsTrue, slice_index_or}
 use Rattle.core_form.specs.Code.{Outcome, Next, Leaves, Returns}
 use Rattle.flow_relations.specs.declared.flows.End.{End}

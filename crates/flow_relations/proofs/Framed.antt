@@ -1,12 +1,15 @@
 -- The flow of code by numbers tells the flow of the code.
-use Rattle.std.proofs.Common.{◌≡◌, ◌≢◌, ℕ, zero, suc, ◌<◌, ◌≤◌, ◌⊎◌, ◌↔◌, inl, inr, true, false, Option, Some, None, refl, sym, ap, subst, ◌∙◌, arith}
+use Rattle.std.proofs.Common.{◌≡◌, ◌≢◌, ℕ, zero, suc, ◌<◌, ◌≤◌, ◌⊎◌, ◌↔◌, inl, inr, true, false, [], Option, Some, None, refl, sym, ap, subst, ◌∙◌, arith}
 use Rattle.std.proofs.lemmas.Bool.{cases_lt}
+use Rattle.spark_base.specs.declared.numbers.BodyNo.{BodyNo}
 use Rattle.spark_base.specs.declared.numbers.LeafNo.{LeafNo}
-use Rattle.core_form.specs.Code.{Expr, Exprs, Spot, Outcome, Next, Code, Constant, Load, Operation, Choice, Listed, Checked, Nothing, And, At, Skip, Then, Assign, Clear, Branch, Repeat, Exit, Called, Guard, Delay, ReadClock, Stop}
-use Rattle.flow_relations.specs.Equation.{names_of, no_calls}
-use Rattle.flow_facts.specs.Flow.{Flow, IsBarrier, IsSame, branch, changing, clearing, flow, guarding, leaving, loop, moving, nowhere, reading, reads_of, reads_of_all, reads_of_spot, seq, setting, unrolling}
+use Rattle.core_form.specs.Code.{Expr, Exprs, Spot, Actuals, Outcome, Next, Code, Constant, Load, Operation, Choice, Listed, Checked, Nothing, And, At, Skip, Then, Assign, Clear, Branch, Repeat, Exit, Called, Guard, Delay, ReadClock, Stop}
+use Rattle.flow_relations.specs.Equation.{names_of, names_of_actuals, no_calls}
+use Rattle.flow_facts.specs.Flow.{Flow, IsBarrier, IsSame, branch, changing, clearing, flow, guarding, loop, moving, nowhere, reading, reads_of, reads_of_all, reads_of_spot, seq, setting, unrolling}
 use Rattle.flow_relations.specs.Framing.{IsInside, IsOutside, Spreads, SpreadsAll, SpreadsPairs, spread}
-use Rattle.flow_relations.specs.Renamed.{renamed, renamed_all, renamed_barrier, renamed_code, renamed_spot}
+use Rattle.call_flow.specs.Calls.{IsCalled}
+use Rattle.flow_relations.specs.CallsTold.{calls_of}
+use Rattle.flow_relations.specs.Renamed.{renamed, renamed_actuals, renamed_all, renamed_barrier, renamed_code, renamed_spot}
 use Rattle.flow_facts.proofs.Same.{branch_same, changing_same, loop_same, moving_same, same_through, seq_same}
 use Rattle.flow_relations.proofs.Spread.{IsBounded, branch_spread, loop_spread, nowhere_spread, seq_spread}
 
@@ -56,7 +59,7 @@ module _ (n : ℕ) where
   }
 
   module _ (x : ℕ) (m : x < n) where
-    moving_bounded : (from : ℕ → Type 0) → IsBounded n (moving n x from)
+    pub moving_bounded : (from : ℕ → Type 0) → IsBounded n (moving n x from)
     moving_bounded from = record {
       writes = λ i e. omega arith;
       kept = λ o i j h. (let e = h.1.1 in let l = h.1.0 in omega arith);
@@ -132,7 +135,7 @@ module _ (name place : ℕ → ℕ) (n void : ℕ) (naming : IsNaming name place
     λ t. (let w = within v t in (w.0, (w.1.0, w.1.1, (numbers w.0 w.1.0).1 (subst T (sym w.1.1) t)))),
   )
 
-  leaf_spread : (x : ℕ) → Inside x → (v : ℕ) → Told (λ i. i ≡ place x) v ↔ (v ≡ x)
+  pub leaf_spread : (x : ℕ) → Inside x → (v : ℕ) → Told (λ i. i ≡ place x) v ↔ (v ≡ x)
   leaf_spread x k v = (
     λ h. sym h.1.1 ∙ (ap name h.1.2 ∙ k.leaf),
     λ e. (let l = k.number in (place x, (omega arith, k.leaf ∙ sym e, refl))),
@@ -147,7 +150,7 @@ module _ (name place : ℕ → ℕ) (n void : ℕ) (naming : IsNaming name place
     ],
   )
 
-  none_spread : (v : ℕ) → Told (λ i. ⊥) v ↔ ⊥
+  pub none_spread : (v : ℕ) → Told (λ i. ⊥) v ↔ ⊥
   none_spread v = (λ h. h.1.2, λ h. absurd h)
 
   mutual
@@ -197,7 +200,7 @@ module _ (name place : ℕ → ℕ) (n void : ℕ) (naming : IsNaming name place
   -- One statement
 
   module _ (out : Outcome) (from : ℕ → Type 0) where
-    reading_spread : IsSame (spread name n void (reading n out from)) (reading void out (Told from))
+    pub reading_spread : IsSame (spread name n void (reading n out from)) (reading void out (Told from))
     reading_spread = record {
       reads = λ v. (λ h. h, λ h. h);
       writes = none_spread;
@@ -340,7 +343,7 @@ module _ (name place : ℕ → ℕ) (n void : ℕ) (naming : IsNaming name place
   -- Code
 
   -- what an expression reads is inside, and so is the place that is set
-  setting_spread : (to : Spot) (from : ℕ → Type 0) (S : ℕ → Type 0) → ((v : ℕ) → reads_of_spot to v → Inside v) → ((v : ℕ) → Told from v ↔ S v)
+  pub setting_spread : (to : Spot) (from : ℕ → Type 0) (S : ℕ → Type 0) → ((v : ℕ) → reads_of_spot to v → Inside v) → ((v : ℕ) → Told from v ↔ S v)
       → IsSame (spread name n void (setting n (renamed_spot place to) from)) (setting void to S)
   setting_spread (At leaf part true cells) from S h s =
       same_through _ _ _ (moving_spread leaf (h leaf (inl refl)) _)
@@ -349,11 +352,11 @@ module _ (name place : ℕ → ℕ) (n void : ℕ) (naming : IsNaming name place
       same_through _ _ _ (changing_spread leaf (h leaf (inl refl)) _)
       (changing_same void leaf _ _ (λ v. either_spread from (reads_of_all (renamed_all place part)) S (reads_of_all part) v (s v) (all_spread part (λ u y. h u (inr y)) v)))
 
-  setting_bounded : (to : Spot) (from : ℕ → Type 0) → ((v : ℕ) → reads_of_spot to v → Inside v) → IsBounded n (setting n (renamed_spot place to) from)
+  pub setting_bounded : (to : Spot) (from : ℕ → Type 0) → ((v : ℕ) → reads_of_spot to v → Inside v) → IsBounded n (setting n (renamed_spot place to) from)
   setting_bounded (At leaf part true cells) from h = moving_bounded n (place leaf) (h leaf (inl refl)).number _
   setting_bounded (At leaf part false cells) from h = changing_bounded n (place leaf) (h leaf (inl refl)).number _
 
-  reading_same : (out : Outcome) (S T : ℕ → Type 0) → ((v : ℕ) → S v ↔ T v) → IsSame (reading void out S) (reading void out T)
+  pub reading_same : (out : Outcome) (S T : ℕ → Type 0) → ((v : ℕ) → S v ↔ T v) → IsSame (reading void out S) (reading void out T)
   reading_same out S T t = record {
     reads = t;
     writes = λ v. (λ y. y, λ y. y);
@@ -378,40 +381,56 @@ module _ (name place : ℕ → ℕ) (n void : ℕ) (naming : IsNaming name place
     dep = s.dep;
   }
 
-  module _ (clock : ℕ) where
+  -- a call by numbers tells that by leaves
+  pub record IsCallTold (by_number by_leaf : BodyNo → Actuals → Flow) (b : BodyNo) (actuals : Actuals) : Type 0 where
+    pub bounded : IsBounded n (by_number b (renamed_actuals place actuals))
+    pub same : IsSame (spread name n void (by_number b (renamed_actuals place actuals))) (by_leaf b actuals)
+
+  module _ (clock : ℕ) (by_number by_leaf : BodyNo → Actuals → Flow) where
+    -- where the actuals are inside, the calls of code by numbers tell those by leaves
+    abbrev pub AreCallsTold : Code → Type 0
+    AreCallsTold a = (b : BodyNo) (actuals : Actuals) → IsCalled b.0 a → ((v : ℕ) → names_of_actuals actuals v → Inside v) → IsCallTold by_number by_leaf b actuals
+
     -- the flow of code by numbers
     abbrev pub numbered : Code → Flow
-    numbered a = flow n (place clock) no_calls (renamed_code place a)
+    numbered a = flow n (place clock) by_number (renamed_code place a)
 
-    numbered_bounded : (a : Code) → ((v : ℕ) → names_of clock a v → Inside v) → IsBounded n (numbered a)
-    numbered_bounded Skip h = reading_bounded n Next (λ v. ⊥)
-    numbered_bounded (Then a b) h = seq_bounded n (numbered a) (numbered b) (numbered_bounded a (λ v x. h v (inl x))) (numbered_bounded b (λ v x. h v (inr x)))
-    numbered_bounded (Assign to e at) h = setting_bounded to _ (λ v x. h v (inl x))
-    numbered_bounded (Clear leaf) h = clearing_bounded n (place leaf) (h leaf refl).number
-    numbered_bounded (Branch e a b) h = branch_bounded n (numbered a) (numbered b) (numbered_bounded a (λ v x. h v (inr (inl x)))) (numbered_bounded b (λ v x. h v (inr (inr x)))) _
-    numbered_bounded (Repeat a) h = loop_bounded n (numbered a) (numbered_bounded a h)
-    numbered_bounded (Exit o) h = reading_bounded n o (λ v. ⊥)
-    numbered_bounded (Called b actuals at) h = nowhere_bounded n
-    numbered_bounded (Guard o barrier c) h = let s = numbered_bounded c (λ v x. h v (inr x)) in record { writes = s.writes; kept = s.kept; dep = s.dep }
-    numbered_bounded (Delay e) h = reading_bounded n Next _
-    numbered_bounded (ReadClock to) h = setting_bounded to _ (λ v x. h v (inl x))
-    numbered_bounded Stop h = nowhere_bounded n
+    numbered_bounded : (a : Code) → ((v : ℕ) → names_of clock a v → Inside v) → AreCallsTold a → IsBounded n (numbered a)
+    numbered_bounded Skip h t = reading_bounded n Next (λ v. ⊥)
+    numbered_bounded (Then a b) h t =
+        seq_bounded n (numbered a) (numbered b) (numbered_bounded a (λ v x. h v (inl x)) (λ c x k. t c x (inl k))) (numbered_bounded b (λ v x. h v (inr x)) (λ c x k. t c x (inr k)))
+    numbered_bounded (Assign to e at) h t = setting_bounded to _ (λ v x. h v (inl x))
+    numbered_bounded (Clear leaf) h t = clearing_bounded n (place leaf) (h leaf refl).number
+    numbered_bounded (Branch e a b) h t =
+        branch_bounded n (numbered a) (numbered b) (numbered_bounded a (λ v x. h v (inr (inl x))) (λ c x k. t c x (inl k))) (numbered_bounded b (λ v x. h v (inr (inr x))) (λ c x k. t c x (inr k))) _
+    numbered_bounded (Repeat a) h t = loop_bounded n (numbered a) (numbered_bounded a h t)
+    numbered_bounded (Exit o) h t = reading_bounded n o (λ v. ⊥)
+    numbered_bounded (Called b actuals at) h t = (t b actuals refl h).bounded
+    numbered_bounded (Guard o barrier c) h t = let s = numbered_bounded c (λ v x. h v (inr x)) t in record { writes = s.writes; kept = s.kept; dep = s.dep }
+    numbered_bounded (Delay e) h t = reading_bounded n Next _
+    numbered_bounded (ReadClock to) h t = setting_bounded to _ (λ v x. h v (inl x))
+    numbered_bounded Stop h t = nowhere_bounded n
 
     -- names that are inside: the flow by numbers is that of the code
-    pub code_spread : (a : Code) → ((v : ℕ) → names_of clock a v → Inside v) → IsSame (spread name n void (numbered a)) (flow void clock no_calls a)
-    code_spread Skip h = same_through _ _ _ (reading_spread Next (λ v. ⊥)) (reading_same Next _ _ none_spread)
-    code_spread (Then a b) h =
-        same_through _ _ _ (seq_spread name place n void naming.places naming.last (numbered a) (numbered b) (numbered_bounded a (λ v x. h v (inl x))))
-        (seq_same _ _ _ _ (code_spread a (λ v x. h v (inl x))) (code_spread b (λ v x. h v (inr x))) void)
-    code_spread (Assign to e at) h = setting_spread to (reads_of (renamed place e)) (reads_of e) (λ v x. h v (inl x)) (reads_spread e (λ v x. h v (inr x)))
-    code_spread (Clear leaf) h = clearing_spread leaf (h leaf refl)
-    code_spread (Branch e a b) h =
+    pub code_spread : (a : Code) → ((v : ℕ) → names_of clock a v → Inside v) → AreCallsTold a → IsSame (spread name n void (numbered a)) (flow void clock by_leaf a)
+    code_spread Skip h t = same_through _ _ _ (reading_spread Next (λ v. ⊥)) (reading_same Next _ _ none_spread)
+    code_spread (Then a b) h t =
+        let x = numbered_bounded a (λ v x. h v (inl x)) (λ c x k. t c x (inl k)) in
+        same_through _ _ _ (seq_spread name place n void naming.places naming.last (numbered a) (numbered b) x)
+        (seq_same _ _ _ _ (code_spread a (λ v x. h v (inl x)) (λ c x k. t c x (inl k))) (code_spread b (λ v x. h v (inr x)) (λ c x k. t c x (inr k))) void)
+    code_spread (Assign to e at) h t = setting_spread to (reads_of (renamed place e)) (reads_of e) (λ v x. h v (inl x)) (reads_spread e (λ v x. h v (inr x)))
+    code_spread (Clear leaf) h t = clearing_spread leaf (h leaf refl)
+    code_spread (Branch e a b) h t =
         same_through _ _ _ (branch_spread name place n void naming.places naming.last (reads_of (renamed place e)) (numbered a) (numbered b))
-        (branch_same _ _ _ _ (code_spread a (λ v x. h v (inr (inl x)))) (code_spread b (λ v x. h v (inr (inr x)))) _ _ (reads_spread e (λ v x. h v (inl x))))
-    code_spread (Repeat a) h = same_through _ _ _ (loop_spread name place n void naming.places naming.last (numbered a) (numbered_bounded a h)) (loop_same void _ _ (code_spread a h))
-    code_spread (Exit o) h = same_through _ _ _ (reading_spread o (λ v. ⊥)) (reading_same o _ _ none_spread)
-    code_spread (Called b actuals at) h = nowhere_spread name place n void naming.places naming.last
-    code_spread (Guard o barrier c) h = guarding_spread barrier (numbered c) _ (λ v x. h v (inl x)) (code_spread c (λ v x. h v (inr x)))
-    code_spread (Delay e) h = same_through _ _ _ (reading_spread Next (reads_of (renamed place e))) (reading_same Next _ _ (reads_spread e h))
-    code_spread (ReadClock to) h = setting_spread to (λ i. i ≡ place clock) (λ v. v ≡ clock) (λ v x. h v (inl x)) (leaf_spread clock (h clock (inr refl)))
-    code_spread Stop h = nowhere_spread name place n void naming.places naming.last
+        (branch_same _ _ _ _ (code_spread a (λ v x. h v (inr (inl x))) (λ c x k. t c x (inl k))) (code_spread b (λ v x. h v (inr (inr x))) (λ c x k. t c x (inr k))) _ _ (reads_spread e (λ v x. h v (inl x))))
+    code_spread (Repeat a) h t = same_through _ _ _ (loop_spread name place n void naming.places naming.last (numbered a) (numbered_bounded a h t)) (loop_same void _ _ (code_spread a h t))
+    code_spread (Exit o) h t = same_through _ _ _ (reading_spread o (λ v. ⊥)) (reading_same o _ _ none_spread)
+    code_spread (Called b actuals at) h t = (t b actuals refl h).same
+    code_spread (Guard o barrier c) h t = guarding_spread barrier (numbered c) _ (λ v x. h v (inl x)) (code_spread c (λ v x. h v (inr x)) t)
+    code_spread (Delay e) h t = same_through _ _ _ (reading_spread Next (reads_of (renamed place e))) (reading_same Next _ _ (reads_spread e h))
+    code_spread (ReadClock to) h t = setting_spread to (λ i. i ≡ place clock) (λ v. v ≡ clock) (λ v x. h v (inl x)) (leaf_spread clock (h clock (inr refl)))
+    code_spread Stop h t = nowhere_spread name place n void naming.places naming.last
+
+  -- of no call anything is known
+  pub no_calls_told : (clock : ℕ) (a : Code) → AreCallsTold clock (calls_of n []) no_calls a
+  no_calls_told clock a b actuals k inside = record { bounded = nowhere_bounded n; same = nowhere_spread name place n void naming.places naming.last }

@@ -1,23 +1,25 @@
 -- The frame of a body: its numbers are those of its leaves, and its code names no other.
-use Rattle.std.proofs.Common.{◌≡◌, ℕ, zero, suc, ◌<◌, ◌≤◌, ◌⊎◌, ◌↔◌, inl, inr, Bool, true, false, cond, Option, Some, None, List, length, refl, sym, ap, subst, ◌∙◌, arith}
-use Rattle.std.specs.Prelude.{IsSomeAnd, slice_get, slice_index_or}
+use Rattle.std.proofs.Common.{◌≡◌, ℕ, zero, suc, ◌≤◌, ◌⊎◌, ◌↔◌, inl, inr, Bool, true, false, cond, Option, Some, None, List, [], length, refl, sym, ap, subst, ◌∙◌, arith}
+use Rattle.std.specs.Prelude.{IsSomeAnd, slice_get}
 use Rattle.std.proofs.lemmas.Bool.{cases_lt}
 use Rattle.std.proofs.lemmas.List.{get_or_past}
+use Rattle.spark_base.specs.declared.numbers.BodyNo.{BodyNo}
 use Rattle.core_form.specs.declared.program.Body.{Body}
 use Rattle.core_form.specs.declared.program.Formal.{Formal}
 use Rattle.core_form.specs.declared.program.Home.{Home}
 use Rattle.core_form.specs.declared.program.Leaf.{Leaf}
 use Rattle.core_form.specs.declared.program.Program.{Program}
 use Rattle.core_form.specs.declared.program.Var.{Var}
-use Rattle.core_form.specs.Code.{Code, Then, Clear, Outcome, code_of}
+use Rattle.core_form.specs.Code.{Actuals, Code, Then, Clear, code_of}
 use Rattle.core_form.specs.Fine.{home_of}
 use Rattle.flow_relations.specs.declared.frame.Frame.{Frame}
 use Rattle.flow_relations.specs.declared.frame.Framing.{Framing}
 use Rattle.flow_relations.specs.Equation.{IsPassed, IsRowLeaf, clock_among, code_at_body, is_unset, is_unset_leaf, is_unset_var, names_of, no_calls, opened, plain_flow, starts_unset}
 use Rattle.flow_facts.specs.Flow.{Flow, IsSame, flow}
 use Rattle.flow_relations.specs.Framing.{IsFrame, IsFrameLeaf, IsFraming, IsFramingOf, IsOwn, Spreads, SpreadsAll, frame_size, framed, name_at, place_at, spread, spread_of}
-use Rattle.flow_relations.specs.Renamed.{renamed_code}
-use Rattle.flow_relations.proofs.Framed.{IsNaming, code_spread}
+use Rattle.flow_relations.specs.CallsTold.{calls_of}
+use Rattle.flow_relations.specs.Summaries.{flow_with}
+use Rattle.flow_relations.proofs.Framed.{AreCallsTold, IsNaming, code_spread, no_calls_told}
 use Rattle.flow_facts.proofs.Same.{same_through}
 
 -- Names
@@ -31,8 +33,8 @@ name_most frame h i l = elim (cases_lt i (frame_size frame)) [
   | inr g ↦ (let a : name_at frame i ≡ frame.void = ap (name_at frame) (omega arith) ∙ name_last frame in omega arith)
 ]
 
-pub naming_of : (p : Program) (b : ℕ) (r : Framing) → IsFramingOf p b r → IsNaming (name_at r.frame) (place_at r.places) r.places.void r.frame.void
-naming_of p b r h =
+pub naming_of : (leaves : ℕ) (S : ℕ → Type 0) (r : Framing) → IsFraming leaves S r → IsNaming (name_at r.frame) (place_at r.places) r.places.void r.frame.void
+naming_of leaves S r h =
     let last : name_at r.frame r.places.void ≡ r.frame.void = ap (name_at r.frame) (sym h.framed.count) ∙ name_last r.frame in
     record {
       places = h.framed.back;
@@ -77,19 +79,22 @@ module _ (name : ℕ → ℕ) (n void : ℕ) where
     dep = λ o. all_same (f.dep o) (g.dep o) (f.can o) (g.can o) (h.dep o) (h.can o);
   }
 
--- code that names leaves of the frame alone has the flow of its numbers
-pub frame_spread : (p : Program) (b : ℕ) (r : Framing) → IsFramingOf p b r → (code : Code) → ((v : ℕ) → names_of (clock_among p.vars) code v → IsFrameLeaf p b v)
-    → IsSame (spread_of r.frame (framed p r.places code)) (plain_flow p code)
-frame_spread p b r h code inside =
-    let clock = clock_among p.vars in
-    let base = code_spread (name_at r.frame) (place_at r.places) r.places.void r.frame.void (naming_of p b r h) clock code (λ v x. h.inside v (inside v x)) in
-    let sized : IsSame (spread_of r.frame (framed p r.places code)) (flow r.frame.void clock no_calls code) =
-    subst (λ n. IsSame (spread (name_at r.frame) n r.frame.void (framed p r.places code)) (flow r.frame.void clock no_calls code)) (sym h.framed.count) base in
-    subst (λ u. IsSame (spread_of r.frame (framed p r.places code)) (flow u clock no_calls code)) h.void sized
+-- code that names leaves of the frame alone has the flow of its numbers, where its calls have theirs
+module _ (p : Program) (S : ℕ → Type 0) (r : Framing) (h : IsFraming (length p.leaves) S r) (by_number by_leaf : BodyNo → Actuals → Flow) where
+  abbrev pub Told : Code → Type 0
+  Told code = AreCallsTold (name_at r.frame) (place_at r.places) r.places.void r.frame.void (naming_of (length p.leaves) S r h) (clock_among p.vars) by_number by_leaf code
 
-pub facts_spread : (p : Program) (b : ℕ) (r : Framing) → IsFramingOf p b r → (code : Code) → ((v : ℕ) → names_of (clock_among p.vars) code v → IsFrameLeaf p b v)
-    → (f : Flow) → IsSame f (framed p r.places code) → IsSame (spread_of r.frame f) (plain_flow p code)
-facts_spread p b r h code inside f s = same_through _ _ _ (spread_same (name_at r.frame) (frame_size r.frame) r.frame.void f _ s) (frame_spread p b r h code inside)
+  frame_spread : (code : Code) → ((v : ℕ) → names_of (clock_among p.vars) code v → S v) → Told code → IsSame (spread_of r.frame (framed p by_number r.places code)) (flow_with p by_leaf code)
+  frame_spread code inside told =
+      let clock = clock_among p.vars in
+      let by = framed p by_number r.places code in
+      let base = code_spread (name_at r.frame) (place_at r.places) r.places.void r.frame.void (naming_of (length p.leaves) S r h) clock by_number by_leaf code (λ v x. h.inside v (inside v x)) told in
+      let sized : IsSame (spread_of r.frame by) (flow r.frame.void clock by_leaf code) =
+      subst (λ n. IsSame (spread (name_at r.frame) n r.frame.void by) (flow r.frame.void clock by_leaf code)) (sym h.framed.count) base in
+      subst (λ u. IsSame (spread_of r.frame by) (flow u clock by_leaf code)) h.void sized
+
+  pub facts_spread : (code : Code) → ((v : ℕ) → names_of (clock_among p.vars) code v → S v) → Told code → (f : Flow) → IsSame f (framed p by_number r.places code) → IsSame (spread_of r.frame f) (flow_with p by_leaf code)
+  facts_spread code inside told f s = same_through _ _ _ (spread_same (name_at r.frame) (frame_size r.frame) r.frame.void f _ s) (frame_spread code inside told)
 
 -- What the whole code of a body names
 
@@ -149,8 +154,11 @@ module _ (p : Program) (b : ℕ) (body : Body) (is : slice_get p.bodies b ≡ So
   code_named : (v : ℕ) → names_of (clock_among p.vars) code v → IsFrameLeaf p b v
   code_named v x = inl (subst (λ c. names_of (clock_among p.vars) c v) (sym (ap (code_at_body p) is)) x)
 
-  pub body_spread : (f : Flow) → IsSame f (framed p r.places code) → IsSame (spread_of r.frame f) (plain_flow p code)
-  body_spread f s = facts_spread p b r h code code_named f s
+  none_told : (a : Code) → Told p (IsFrameLeaf p b) r h (calls_of r.places.void []) no_calls a
+  none_told a = no_calls_told (name_at r.frame) (place_at r.places) r.places.void r.frame.void (naming_of (length p.leaves) (IsFrameLeaf p b) r h) (clock_among p.vars) a
+
+  pub body_spread : (f : Flow) → IsSame f (framed p (calls_of r.places.void []) r.places code) → IsSame (spread_of r.frame f) (plain_flow p code)
+  body_spread f s = facts_spread p (IsFrameLeaf p b) r h (calls_of r.places.void []) no_calls code code_named (none_told code) f s
 
   abbrev whole : Code
   whole = opened (starts_unset p b body.formals) (length p.leaves) 0 code
@@ -161,8 +169,8 @@ module _ (p : Program) (b : ℕ) (body : Body) (is : slice_get p.bodies b ≡ So
     | inr y ↦ inr (unset_own p b body.formals v y)
   ]
 
-  pub whole_spread : (f : Flow) → IsSame f (framed p r.places whole) → IsSame (spread_of r.frame f) (plain_flow p whole)
-  whole_spread f s = facts_spread p b r h whole whole_named f s
+  pub whole_spread : (f : Flow) → IsSame f (framed p (calls_of r.places.void []) r.places whole) → IsSame (spread_of r.frame f) (plain_flow p whole)
+  whole_spread f s = facts_spread p (IsFrameLeaf p b) r h (calls_of r.places.void []) no_calls whole whole_named (none_told whole) f s
 
 -- a leaf of the row is in the frame
 pub row_inside : (p : Program) (b : ℕ) (r : Framing) → IsFramingOf p b r → (v : ℕ) → IsRowLeaf p b v → (i : ℕ) × ((i ≤ frame_size r.frame) × (name_at r.frame i ≡ v))

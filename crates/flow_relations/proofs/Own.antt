@@ -1,5 +1,5 @@
 -- Where each leaf is its own number, code stays what it is.
-use Rattle.std.proofs.Common.{◌≡◌, ℕ, Option, Some, None, refl, sym, subst, ap, ◌∙◌}
+use Rattle.std.proofs.Common.{◌≡◌, ℕ, Option, Some, None, refl, ap, ◌∙◌}
 use Rattle.spark_base.specs.declared.numbers.LeafNo.{LeafNo}
 use Rattle.core_form.specs.Code.{Expr, Exprs, Spot, Spots, NoSpot, AndSpot, Actuals, NoActual, AndActual, Code, Constant, Load, Operation, Choice, Listed, Checked, Nothing, And, At, Skip, Then, Assign, Clear, Branch, Repeat, Exit, Called, Guard, Delay, ReadClock, Stop}
 use Rattle.flow_relations.specs.Equation.{names_of}

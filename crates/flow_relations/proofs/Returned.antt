@@ -1,5 +1,5 @@
 -- What the squares of numbers tell of leaves where a body returns.
-use Rattle.std.proofs.Common.{◌≡◌, ℕ, ◌+◌, ◌<◌, ◌≤◌, ◌⊎◌, ◌↔◌, inl, inr, refl, sym, ap, subst, ◌∙◌, arith}
+use Rattle.std.proofs.Common.{◌≡◌, ℕ, ◌+◌, ◌<◌, ◌≤◌, ◌⊎◌, ◌↔◌, inl, inr, sym, subst, ◌∙◌, arith}
 use Rattle.std.proofs.lemmas.Bool.{cases_lt}
 use Rattle.flow_relations.specs.declared.frame.Frame.{Frame}
 use Rattle.flow_relations.specs.Framing.{AlsoOutside, IsFrame, Numbered, Spreads, frame_size, name_at}

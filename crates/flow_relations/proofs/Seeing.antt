@@ -1,15 +1,15 @@
 -- The equation looks at the rows of callees alone, and more known of these is more known of the caller.
-use Rattle.std.proofs.Common.{◌≡◌, ℕ, zero, suc, ◌⊎◌, ◌↔◌, Bool, true, false, cond, Option, Some, None, inl, inr, refl}
+use Rattle.std.proofs.Common.{ℕ, zero, suc, Bool, true, false, cond, Option, Some, None, inl, inr}
 use Rattle.std.specs.Prelude.{slice_get}
 use Rattle.spark_base.specs.declared.numbers.BodyNo.{BodyNo}
 use Rattle.core_form.specs.declared.contract.Contract.{Contract}
 use Rattle.core_form.specs.declared.program.Body.{Body}
 use Rattle.core_form.specs.declared.program.Program.{Program}
 use Rattle.core_form.specs.Code.{Code, Then, Clear, code_of}
-use Rattle.flow_facts.specs.Flow.{Flow, IsWithin, Summary}
+use Rattle.flow_facts.specs.Flow.{Summary}
 use Rattle.summary_rows.specs.declared.layout.Layout.{Layout}
 use Rattle.summary_rows.specs.Facts.{Fact, Part, Returning, Reading, Writing, Keeping, Depending}
-use Rattle.call_flow.specs.Calls.{IsCalled, IsLess, calling}
+use Rattle.call_flow.specs.Calls.{IsCalled, IsLess}
 use Rattle.call_flow.proofs.Grown.{calling_grows, flow_sees, row_grows}
 use Rattle.flow_relations.specs.Equation.{clock_among, code_at_body, code_of_body, opened, starts_unset, whole_at, whole_code}
 use Rattle.flow_relations.specs.Summaries.{calls_seen, equation_over, flow_with, row_leaf_of}

@@ -1,8 +1,8 @@
 -- A flow of numbers as one of names: one to one, this goes with each rule.
-use Rattle.std.proofs.Common.{◌≡◌, ◌≢◌, ℕ, zero, suc, ◌<◌, ◌≤◌, ◌⊎◌, ◌↔◌, inl, inr, refl, sym, ap, subst, ◌∙◌, arith}
-use Rattle.core_form.specs.Code.{Outcome, Next, Leaves, Returns}
-use Rattle.flow_facts.specs.Flow.{Flow, IsExit, IsSame, Splits, seq_can, either_way, branch_can, loop_can, inside, nowhere, leaving, moving, changing, clearing, seq, branch, unrolling, loop}
-use Rattle.flow_relations.specs.Framing.{IsOutside, Spreads, SpreadsAll, SpreadsPairs, spread}
+use Rattle.std.proofs.Common.{◌≡◌, ℕ, zero, suc, ◌≤◌, ◌⊎◌, ◌↔◌, inl, inr, refl, sym, ap, subst, ◌∙◌, arith}
+use Rattle.core_form.specs.Code.{Outcome, Next}
+use Rattle.flow_facts.specs.Flow.{Flow, IsSame, Splits, loop_can, inside, nowhere, seq, branch, unrolling, loop}
+use Rattle.flow_relations.specs.Framing.{Spreads, SpreadsAll, spread}
 use Rattle.flow_facts.proofs.Same.{same_itself, same_through, seq_same}
 
 -- what is written or related is a number

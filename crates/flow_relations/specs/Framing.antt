@@ -1,15 +1,16 @@
 -- The names of a body by numbers: what a flow of numbers says of leaves. A leaf without a number is not touched.
 use Rattle.std.specs.Prelude.{◌≡◌, ℕ, ◌+◌, ◌<◌, ◌≤◌, ◌^◌, ◌⊎◌, Bool, List, IsSomeAnd, length, slice_index_or}
+use Rattle.spark_base.specs.declared.numbers.BodyNo.{BodyNo}
 use Rattle.spark_base.specs.declared.numbers.LeafNo.{LeafNo}
 use Rattle.core_form.specs.declared.program.Home.{Home}
 use Rattle.core_form.specs.declared.program.Program.{Program}
-use Rattle.core_form.specs.Code.{Code}
+use Rattle.core_form.specs.Code.{Actuals, Code}
 use Rattle.core_form.specs.Fine.{home_of}
 use Rattle.flow_bits.specs.Sets.{Has}
 use Rattle.flow_relations.specs.declared.frame.Frame.{Frame}
 use Rattle.flow_relations.specs.declared.frame.Framing.{Framing}
 use Rattle.flow_relations.specs.declared.frame.Places.{Places}
-use Rattle.flow_relations.specs.Equation.{clock_among, code_of_body, names_of, no_calls}
+use Rattle.flow_relations.specs.Equation.{clock_among, code_of_body, names_of}
 use Rattle.flow_facts.specs.Flow.{Flow, flow}
 use Rattle.flow_relations.specs.Renamed.{renamed_code}
 
@@ -112,9 +113,9 @@ pub record IsFraming (leaves : ℕ) (S : ℕ → Type 0) (r : Framing) : Type 0 
   pub below : AreBelow leaves r.places
   pub inside : (v : ℕ) → S v → IsInside (name_at r.frame) (place_at r.places) r.places.void v
 
--- the flow of code by the numbers of its leaves
-abbrev pub framed : Program → Places → Code → Flow
-framed p places code = flow places.void (place_at places (clock_among p.vars)) no_calls (renamed_code (place_at places) code)
+-- the flow of code by the numbers of its leaves, with what is known of calls
+abbrev pub framed : Program → (BodyNo → Actuals → Flow) → Places → Code → Flow
+framed p call places code = flow places.void (place_at places (clock_among p.vars)) call (renamed_code (place_at places) code)
 
 -- The frame of a body
 

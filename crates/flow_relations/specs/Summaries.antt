@@ -1,5 +1,5 @@
 -- The row of a body whose code calls others, over the rows of these.
-use Rattle.std.specs.Prelude.{◌≡◌, ℕ, ◌⊎◌, Option, IsSomeAnd, slice_get, length}
+use Rattle.std.specs.Prelude.{ℕ, ◌⊎◌, Option, IsSomeAnd, slice_get, length}
 use Rattle.spark_base.specs.declared.numbers.BodyNo.{BodyNo}
 use Rattle.core_form.specs.declared.program.Body.{Body}
 use Rattle.core_form.specs.declared.program.Program.{Program}

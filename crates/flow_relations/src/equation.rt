@@ -1,8 +1,10 @@
-ghost use Rattle.std.specs.Prelude.{◌≡◌, ◌≢◌, ℕ, ◌+◌, ◌<◌, ◌≤◌, ◌⊎◌, ◌↔◌, Some, true, false, length, slice_get, IfOk, IsSomeAnd, IsTrue};
+ghost use Rattle.std.specs.Prelude.{◌≡◌, ◌≢◌, ℕ, ◌+◌, ◌<◌, ◌≤◌, ◌⊎◌, ◌↔◌, List, Some, true, false, length, slice_get, IfOk, IsSomeAnd, IsTrue};
 ghost use Rattle.core_form.specs.Code.{Code, code_of};
 ghost use Rattle.core_form.specs.Fine.{IsWellFormed, home_of};
 ghost use Rattle.flow_relations.specs.Equation.{IsLibrary, IsPassed, IsRowLeaf, equation, is_out, opened, starts_unset};
 ghost use Rattle.flow_facts.specs.Flow.{IsSame, clearing, row_of, seq};
+ghost use Rattle.flow_relations.specs.declared.callees.Callee.{Callee};
+ghost use Rattle.flow_relations.specs.CallsTold.{calls_of};
 ghost use Rattle.flow_relations.specs.Framing.{AreBelow, IsFrame, Spreads, frame_size, framed, name_at, place_at, spread_of};
 ghost use Rattle.flow_bits.specs.Sets.{Has, Relates, Tells, TellsPairs};
 ghost use Rattle.flow_facts.specs.Told.{AreSized, IsSideSized, told};
@@ -135,8 +137,8 @@ fn open_frame(
     requires size { AreSized (places.now.void + 1) facts.old }
     requires room { HasRoom (places.now.void + 1) room.old }
     ensures size { AreSized (places.now.void + 1) facts.new }
-    ensures flow { (code : Code) → IsSame (told facts.old) (framed program.now places.now code)
-        → IsSame (told facts.new) (framed program.now places.now
+    ensures flow { (callees : List Callee) (code : Code) → IsSame (told facts.old) (framed program.now (calls_of places.now.void callees) places.now code)
+        → IsSame (told facts.new) (framed program.now (calls_of places.now.void callees) places.now
         (opened (starts_unset program.now body.0 formals.now) (length program.now.leaves) 0 code)) }
 {
     for leaf in (0..void_of(program)).rev() {
@@ -298,7 +300,7 @@ pub fn row_of_body(alloc: Global, program: &Program, body: BodyNo) -> Result<Bod
     let Framing { frame, places } = frame_of(alloc, program, body)?;
     let mut room = new_room(alloc, places.void + 1)?;
     let node = program.bodies.at(body.0 as usize);
-    let mut facts = facts_of(alloc, program, &places, node.code, &mut room)?;
+    let mut facts = facts_of(alloc, program, &[], &places, node.code, &mut room)?;
     open_frame(
         program,
         &places,

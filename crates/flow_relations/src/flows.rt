@@ -76,7 +76,7 @@ pub fn flow_of(alloc: Global, program: &Program, body: BodyNo) -> Result<Flow, N
     let Framing { frame, places } = frame_of(alloc, program, body)?;
     let mut room = new_room(alloc, places.void + 1)?;
     let code = program.bodies.at(body.0 as usize).code;
-    let facts = facts_of(alloc, program, &places, code, &mut room)?;
+    let facts = facts_of(alloc, program, &[], &places, code, &mut room)?;
     flow_from(alloc, facts, frame)
 }
 

@@ -1,4 +1,4 @@
-use Rattle.std.proofs.Common.{◌≡◌, ℕ, ◌+◌, ◌<◌, ◌⊎◌, ◌↔◌, length, arith}
+use Rattle.std.proofs.Common.{◌≡◌, ◌+◌, ◌⊎◌, arith}
 use Rattle.std.specs.Prelude.{IsTrue}
 use Rattle.flow_bits.specs.Sets.{Has, Relates}
 use Rattle.flow_relations.specs.Framing.{frame_size, name_at}

@@ -1,4 +1,4 @@
-use Rattle.std.proofs.Common.{◌≡◌, subst}
+use Rattle.std.proofs.Common.{subst}
 use Rattle.summary_rows.specs.declared.layout.Layout.{Layout}
 use Rattle.summary_rows.specs.Layout.{told}
 use Rattle.call_flow.specs.Calls.{IsLess}

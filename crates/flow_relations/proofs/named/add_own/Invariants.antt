@@ -1,4 +1,4 @@
-use Rattle.std.proofs.Common.{◌≡◌, ℕ, ◌+◌, ◌<◌, ◌⊎◌, length}
+use Rattle.std.proofs.Common.{◌≡◌, ◌+◌, ◌<◌, ◌⊎◌, length}
 use Rattle.std.specs.Prelude.{IsSomeAnd}
 use Rattle.core_form.specs.Fine.{home_of}
 use Rattle.flow_bits.specs.Sets.{Has, Tells}
