@@ -1,11 +1,10 @@
 -- Sizes of rows, and where they are laid out.
-use Rattle.std.proofs.Common.{◌≡◌, ℕ, zero, suc, ◌+◌, ◌*◌, ◌/◌, ◌<◌, ◌≤◌, List, [], ◌∷◌, ◌++◌, length, length-append, get_or, refl, inl, inr, arith, ap, sym, subst, ◌∙◌}
+use Rattle.std.proofs.Common.{◌≡◌, ℕ, zero, suc, ◌+◌, ◌≤◌, List, [], ◌∷◌, ◌++◌, length, length-append, get_or, refl, inl, inr, arith, ap, subst}
 use Rattle.std.proofs.Math.Seq.{get_or-append_seam}
 use Rattle.std.proofs.lemmas.Bool.{cases_eq}
 use Rattle.std.proofs.lemmas.List.{get_or_append_left}
 use Rattle.spark_base.specs.declared.numbers.LeafNo.{LeafNo}
 use Rattle.std.proofs.lemmas.Nat.{mul-le}
-use Rattle.flow_bits.specs.Words.{words_for}
 use Rattle.summary_rows.specs.declared.layout.Layout.{Layout}
 use Rattle.summary_rows.specs.Layout.{IsLayout, IsIncreasing, row_size, words_before}
 use Rattle.row_leaves.specs.Leaves.{most_words}

@@ -1,15 +1,15 @@
 -- Rows while leaves come, one after another.
-use Rattle.std.proofs.Common.{◌≡◌, ℕ, zero, suc, ◌+◌, ◌<◌, ◌≤◌, ◌⊎◌, ◌↔◌, Bool, true, false, List, [], ◌∷◌, ◌++◌, Some, None, length, get_or, refl, inl, inr, arith, subst, sym, ap, ◌∙◌}
-use Rattle.std.specs.Prelude.{slice_get, slice_index_or, IsTrue}
-use Rattle.std.proofs.lemmas.Bool.{false≢true, cases_Bool, cases_lt, cases_eq}
+use Rattle.std.proofs.Common.{◌≡◌, ℕ, zero, suc, ◌+◌, ◌<◌, ◌⊎◌, ◌↔◌, Bool, true, false, List, [], ◌∷◌, ◌++◌, length, refl, inl, inr, arith, subst, sym, ap, ◌∙◌}
+use Rattle.std.specs.Prelude.{slice_index_or}
+use Rattle.std.proofs.lemmas.Bool.{false≢true, cases_lt, cases_eq}
 use Rattle.std.proofs.lemmas.Option.{none-some, slice_get_past}
 use Rattle.spark_base.specs.declared.numbers.BodyNo.{BodyNo}
 use Rattle.spark_base.specs.declared.numbers.LeafNo.{LeafNo}
-use Rattle.call_lists.specs.Lists.{Names, Has}
+use Rattle.call_lists.specs.Lists.{Names}
 use Rattle.call_lists.proofs.Names.{names_within}
-use Rattle.summary_rows.specs.Layout.{IsAt, IsIncreasing}
+use Rattle.summary_rows.specs.Layout.{IsAt}
 use Rattle.row_leaves.specs.declared.leaves.Bodies.{Bodies}
-use Rattle.row_leaves.specs.Leaves.{HasLeaf, IsOwn, Sees, IsLibrary, RowLeafWithin, IsRowLeaf, AreRowLeaves}
+use Rattle.row_leaves.specs.Leaves.{IsLibrary, RowLeafWithin, IsRowLeaf, AreRowLeaves}
 use Rattle.row_leaves.specs.Search.{Leads, LeadsTo, Spread, grown, IsRowBelow}
 
 -- A leaf spreads along callers, from those whose own it is, if it is a library leaf.

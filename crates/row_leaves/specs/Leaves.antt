@@ -1,6 +1,5 @@
 -- Which leaves the row of each body has: its own, and of those of the rows that it sees the library leaves.
-use Rattle.std.specs.Prelude.{◌≡◌, ℕ, zero, suc, ◌+◌, ◌<◌, ◌^◌, ◌⊎◌, ◌↔◌, All, Bool, true, false, List, [], slice_index_or, length, IsTrue}
-use Rattle.spark_base.specs.declared.numbers.BodyNo.{BodyNo}
+use Rattle.std.specs.Prelude.{◌≡◌, ℕ, zero, suc, ◌+◌, ◌<◌, ◌^◌, ◌⊎◌, ◌↔◌, All, false, List, [], slice_index_or, length, IsTrue}
 use Rattle.spark_base.specs.declared.numbers.LeafNo.{LeafNo}
 use Rattle.call_lists.specs.Lists.{AreLists, Names}
 use Rattle.summary_rows.specs.Layout.{IsAt, IsIncreasing, words_before}
@@ -53,7 +52,8 @@ abbrev pub most_leaves : ℕ
 most_leaves = 4096
 
 abbrev pub IsTooLarge : Bodies → List (List LeafNo) → ℕ → Type 0
-IsTooLarge d outer b = (most_words < words_before outer (suc b)) ⊎ (most_leaves < length (slice_index_or outer b []) + slice_index_or d.beside b 0)
+IsTooLarge d outer b =
+    (most_words < words_before outer (suc b)) ⊎ (most_leaves < length (slice_index_or outer b []) + slice_index_or d.beside b 0)
 
 -- of these bodies, the first for which there is no room
 abbrev pub IsFirstTooLarge : Bodies → List (List LeafNo) → ℕ → Type 0

@@ -32,7 +32,8 @@ pub record IsFound (marks : List Bool) (found : List BodyNo) : Type 0 where
   pub count : length found + clear marks ≡ length marks
 
 -- the callers of those that stand before a place were looked at
-pub record IsSearching (callers : List (List BodyNo)) (starts : List BodyNo) (marks : List Bool) (found : List BodyNo) (place : ℕ) : Type 0 where
+pub record IsSearching (callers : List (List BodyNo)) (starts : List BodyNo) (marks : List Bool) (found : List BodyNo)
+    (place : ℕ) : Type 0 where
   pub within : place ≤ length found
   pub size : length marks ≡ length callers
   pub lists : IsFound marks found

@@ -1,10 +1,10 @@
-use Rattle.std.proofs.Common.{◌≡◌, ℕ, ◌<◌, [], List, Some, length, get_or, arith, subst, sym, ◌∙◌}
+use Rattle.std.proofs.Common.{◌≡◌, ◌<◌, [], List, Some, length, arith, subst, sym, ◌∙◌}
 use Rattle.std.specs.Prelude.{slice_get}
 use Rattle.std.proofs.lemmas.List.{get_or_default}
 use Rattle.std.proofs.lemmas.Option.{slice_get-get_or}
 use Rattle.spark_base.specs.declared.numbers.BodyNo.{BodyNo}
 use Rattle.row_leaves.specs.Search.{IsFound}
-use Rattle.row_leaves.proofs.Found.{found_none, search_starts, search_steps, search_ends}
+use Rattle.row_leaves.proofs.Found.{found_none, search_steps, search_ends}
 use Rattle.row_leaves.proofs.search.search.Goals as goal
 
 pub find_all-requires-clause-found : goal.find_all-requires-clause-found
