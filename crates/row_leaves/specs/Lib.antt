@@ -1,0 +1,3 @@
+pub mod Laid
+pub mod Leaves
+pub mod Search
