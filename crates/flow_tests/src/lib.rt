@@ -2,6 +2,8 @@
 #![tactic(auto)]
 
 #[cfg(test)]
+mod call_tests;
+#[cfg(test)]
 mod frame_tests;
 #[cfg(test)]
 mod loop_tests;
