@@ -1,0 +1,2 @@
+pub mod DependsCheck
+pub mod ItemSets
