@@ -10,6 +10,3 @@ mod starts;
 mod unlisted;
 
 pub use messages::append_initial_messages;
-
-#[cfg(test)]
-mod tests;
