@@ -1,6 +1,6 @@
 use Rattle.std.proofs.Common.{◌≡◌, ℕ, length}
 use Rattle.summary_rows.specs.Layout.{IsAt}
-use Rattle.global_check.proofs.tests.first_leaves.Given as goal
+use Rattle.check_tests.proofs.samples.first_leaves.Given as goal
 
 abbrev pub invariant-loop-k : goal.invariant-loop-k
 invariant-loop-k l = record {
