@@ -6,8 +6,6 @@ mod children;
 mod laws;
 mod nodes;
 mod refusals;
-#[cfg(test)]
-mod tests;
 mod tokens;
 mod weights;
 

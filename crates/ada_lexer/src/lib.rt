@@ -13,8 +13,6 @@ mod piece;
 mod pieces;
 mod refusal;
 mod scan;
-#[cfg(test)]
-mod tests;
 
 pub use laws::{
     longest_fronts, number_parts, number_values, pieces_joined, refusals_behind_pieces,

@@ -8,6 +8,3 @@ mod signatures;
 pub use dropping::dropped_facts;
 pub use known::{Known, known_facts};
 pub use signatures::{Passing, Signature};
-
-#[cfg(test)]
-mod tests;

@@ -8,6 +8,3 @@ mod signatures;
 pub use names::{name_in_call, names_in_call};
 pub use rows::row_known;
 pub use signatures::signature_of;
-
-#[cfg(test)]
-mod tests;

@@ -2,10 +2,16 @@
 #![tactic(auto)]
 
 #[cfg(test)]
+mod depends_tests;
+#[cfg(test)]
 mod global_tests;
+#[cfg(test)]
+mod initializes_tests;
 #[cfg(test)]
 mod item_tests;
 #[cfg(test)]
 mod mode_tests;
+#[cfg(test)]
+mod moment_tests;
 #[cfg(test)]
 mod samples;

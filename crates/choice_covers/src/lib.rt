@@ -5,8 +5,6 @@ mod choices;
 mod covers;
 mod laws;
 mod runs;
-#[cfg(test)]
-mod tests;
 
 pub use choices::{Bounds, Covering, Placed, between};
 pub use covers::{refuse_coverage, refuse_outside};

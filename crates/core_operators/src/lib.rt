@@ -7,6 +7,3 @@ mod truths;
 
 pub use operators::{Operands, operate, single};
 pub use truths::truth;
-
-#[cfg(test)]
-mod tests;

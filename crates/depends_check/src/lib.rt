@@ -8,8 +8,6 @@ mod item_sets;
 mod mentions;
 mod messages;
 mod sides;
-#[cfg(test)]
-mod tests;
 mod used;
 
 pub use messages::append_depends_messages;

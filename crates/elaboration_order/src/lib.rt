@@ -5,8 +5,6 @@ mod order;
 mod queue;
 mod rules;
 mod sets;
-#[cfg(test)]
-mod tests;
 
 pub use order::elaboration_order;
 pub use rules::Rule;

@@ -3,8 +3,6 @@
 
 mod edges;
 mod looks;
-#[cfg(test)]
-mod tests;
 
 pub use edges::{Edges, edges_over, no_edges};
 pub use looks::{first_token, is_aggregate, is_name, is_plain_name};

@@ -7,8 +7,6 @@ mod components;
 mod operands;
 mod parts;
 mod readings;
-#[cfg(test)]
-mod tests;
 
 pub use aggregates::{refuse_choices, refuse_unexpected, refuse_values, wanted_shape};
 pub use choices::{

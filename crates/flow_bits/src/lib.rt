@@ -11,6 +11,3 @@ mod words;
 
 pub use row::Row;
 pub use square::Square;
-
-#[cfg(test)]
-mod tests;

@@ -123,8 +123,8 @@ fn open_leaf(
     }
 }
 
-// Puts before the code of a body that its own leaves are unassigned, from the last on.
-fn open_frame(
+/// Puts before the code of a body that its own leaves are unassigned, from the last on.
+pub fn open_frame(
     program: &Program,
     places: &Places,
     body: BodyNo,
@@ -257,8 +257,8 @@ fn leaves_in(alloc: Global, numbers: &Row, frame: &Frame, named: &Row) -> Result
     Ok(row)
 }
 
-// The row that facts tell, in some leaves of the frame.
-fn row_from(alloc: Global, facts: &Facts, named: Row, frame: Frame) -> Result<BodyRow, NoMemory>
+/// The row that facts tell, in some leaves of the frame.
+pub fn row_from(alloc: Global, facts: &Facts, named: Row, frame: Frame) -> Result<BodyRow, NoMemory>
     requires frame { IsFrame frame }
     requires size { AreSized (frame_size frame + 1) facts.now }
     requires named { length named ≡ frame.void + 1 }

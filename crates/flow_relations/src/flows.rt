@@ -80,7 +80,8 @@ pub fn flow_of(alloc: Global, program: &Program, body: BodyNo) -> Result<Flow, N
     flow_from(alloc, facts, frame)
 }
 
-fn flow_from(alloc: Global, facts: Facts, frame: Frame) -> Result<Flow, NoMemory>
+/// The flow that facts of a body's code tell, in the numbers of its frame.
+pub fn flow_from(alloc: Global, facts: Facts, frame: Frame) -> Result<Flow, NoMemory>
     requires frame { IsFrame frame }
     requires size { AreSized (frame_size frame + 1) facts }
     requires none { (n : ℕ) → IsTrue (side_at facts (Leaves n)).reached → ⊥ }

@@ -12,7 +12,10 @@ mod names;
 mod reads;
 mod statements;
 
+pub use callees::Callee;
 pub use calls::call_facts;
-pub use equation::{BodyRow, row_of_body};
-pub use flows::{End, Flow, Outcome, flow_of};
-pub use frame::{Frame, Places};
+pub use equation::{BodyRow, open_frame, row_from, row_of_body};
+pub use flows::{End, Flow, Outcome, flow_from, flow_of};
+pub use frame::{Frame, Framing, Places, frame_from};
+pub use named::{add_own, names_row, void_of};
+pub use statements::{Room, facts_of, new_room};

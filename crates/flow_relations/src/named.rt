@@ -60,8 +60,8 @@ fn add_if_own(program: &Program, body: BodyNo, leaf: LeafNo, into: &mut Row)
     }
 }
 
-// Adds a body's own leaves.
-fn add_own(program: &Program, body: BodyNo, into: &mut Row)
+/// Adds a body's own leaves.
+pub fn add_own(program: &Program, body: BodyNo, into: &mut Row)
     requires fine { IsWellFormed program.now }
     requires size { length into.old ≡ length program.now.leaves + 1 }
     ensures size { length into.new ≡ length into.old }

@@ -1,4 +1,4 @@
-// Programs with one body, built by hand.
+// Programs built by hand.
 use core_form::{
     Body, BodyKind, CoreExpr, CoreStmt, Formal, Home, Leaf, Package, Part, Place, Program, Sharing,
     States, Var,
@@ -66,7 +66,8 @@ pub fn list(stmts: Vec<StmtNo>) -> CoreStmt {
     CoreStmt::Seq(Items::from_vec(stmts))
 }
 
-fn body(alloc: Global, formals: Vec<Formal>, code: StmtNo) -> Body {
+/// A procedure without a contract.
+pub fn body(alloc: Global, formals: Vec<Formal>, code: StmtNo) -> Body {
     Body {
         name: Bytes::new(alloc),
         place: NOWHERE,

@@ -3,8 +3,6 @@
 
 mod findings;
 mod laws;
-#[cfg(test)]
-mod tests;
 
 pub use findings::{Fault, Findings, Mention, Spelling, refuse_if};
 pub use laws::{first_of_all, one_by_one};

@@ -3,8 +3,6 @@
 
 mod keys;
 mod map;
-#[cfg(test)]
-mod tests;
 
 pub use keys::KeyTable;
 pub use map::KeyMap;

@@ -3,7 +3,5 @@
 
 mod marks;
 mod prefixes;
-#[cfg(test)]
-mod tests;
 
 pub use marks::{read_mark, read_part_mark, read_unit, read_use};

@@ -4,8 +4,6 @@
 mod elaboration;
 mod packages;
 mod rules;
-#[cfg(test)]
-mod tests;
 
 pub use elaboration::{Elaboration, elaborate};
 pub use packages::{Item, Package};

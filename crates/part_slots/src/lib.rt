@@ -4,8 +4,6 @@
 mod calls;
 mod readings;
 mod slots;
-#[cfg(test)]
-mod tests;
 mod values;
 
 pub use calls::{Actuals, actuals_of, arranged, gift_slots, has_value};

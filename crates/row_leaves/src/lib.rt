@@ -7,6 +7,3 @@ mod search;
 
 pub use layout::{Laid, MOST_LEAVES, MOST_WORDS, layout_of};
 pub use leaves::{Bodies, row_leaves};
-
-#[cfg(test)]
-mod tests;

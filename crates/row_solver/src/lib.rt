@@ -6,6 +6,3 @@ mod solve;
 
 pub use equations::RowEquations;
 pub use solve::solve_alone;
-
-#[cfg(test)]
-mod tests;

@@ -7,8 +7,6 @@ mod context;
 mod entities;
 mod selections;
 mod shown;
-#[cfg(test)]
-mod tests;
 
 pub use applications::{Application, is_unit_name};
 pub use attributes::{Bearer, Gift};

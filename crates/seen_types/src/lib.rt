@@ -5,8 +5,6 @@
 mod operators;
 mod seen;
 mod table;
-#[cfg(test)]
-mod tests;
 mod typed;
 
 pub use seen::{ExprType, FieldSeen, Seen, Shape};

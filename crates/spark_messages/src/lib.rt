@@ -6,6 +6,3 @@ pub mod message_texts;
 pub mod messages;
 
 pub use messages::{Code, Kind, Message, PhaseFault, ordered, text_of};
-
-#[cfg(test)]
-mod tests;

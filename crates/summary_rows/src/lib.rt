@@ -12,6 +12,3 @@ pub use laws::{
 pub use layout::{Layout, row_size};
 pub use rows::Rows;
 pub use words::Words;
-
-#[cfg(test)]
-mod tests;

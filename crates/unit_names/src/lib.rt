@@ -4,8 +4,6 @@
 mod heads;
 mod passes;
 mod seen;
-#[cfg(test)]
-mod tests;
 
 pub use heads::{Head, Part, Withed};
 pub use passes::{UnitFault, name_fault};

@@ -10,8 +10,6 @@ mod operators;
 mod standings;
 mod statics;
 mod tellings;
-#[cfg(test)]
-mod tests;
 
 pub use applications::{
     Passed, applied_to, only_entity, refuse_application, refuse_no_type, refuse_product_faults,

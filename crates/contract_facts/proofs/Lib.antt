@@ -1,0 +1,4 @@
+pub mod Listing
+pub mod Seeing
+pub mod Used
+pub mod Views

@@ -1,4 +1,0 @@
-use Rattle.expr_outlines.proofs.tests.+edges_of.Given as goal
-
-abbrev pub decreases-edges_of : goal.decreases-edges_of
-decreases-edges_of l = l.e.0

@@ -1,0 +1,5 @@
+pub mod First
+pub mod Names
+pub mod Packed
+pub mod Finite
+pub mod Following

@@ -1,0 +1,4 @@
+pub mod Calls
+pub mod Leaving
+pub mod Listed
+pub mod Told
