@@ -1,28 +1,18 @@
 // A package P with a variable X, a constituent of its state S, a variable Y, and a procedure Q with formals A (in) and B (out).
 ghost use Rattle.std.specs.Prelude.{◌≡◌, IfOk, length};
-ghost use Rattle.summary_rows.specs.Layout.{AreRows, IsIncreasing};
+ghost use Rattle.summary_rows.specs.Layout.{AreRows};
 
+use crate::samples::{first_leaves, line};
 use core_form::{
     Body, BodyKind, Contract, CoreStmt, DependsPair, Formal, GlobalItem, Home, Item, Leaf, Mode,
     Package, ParamMode, Part, Program, Sharing, StateDef, States, Var, well_formed,
 };
 use depends_check::append_depends_messages;
-use spark_base::{
-    BodyNo, Bytes, FileNo, ItemNo, Items, LeafNo, NoMemory, PackageNo, Pos, Span, StmtNo, VarNo,
-};
+use spark_base::{BodyNo, Bytes, ItemNo, Items, LeafNo, NoMemory, PackageNo, StmtNo, VarNo};
 use spark_messages::{ordered, text_of};
 use std::alloc::Global;
 use std::test::Fail;
 use summary_rows::{Layout, Rows};
-
-fn line(line: u32) -> Span {
-    let pos = Pos { line, col: 1 };
-    Span {
-        file: FileNo(0),
-        from: pos,
-        to: pos,
-    }
-}
 
 /// Name, home, state of the variables, each of which has one leaf.
 const VARS: [(&str, Home, Option<u32>); 4] = [
@@ -204,22 +194,11 @@ fn program(alloc: Global, case: &Case) -> Result<Program, NoMemory> {
     })
 }
 
-fn first_leaves(alloc: Global) -> Result<Items<LeafNo>, NoMemory>
-    ensures size { IfOk result (λ leaves. length leaves ≡ 4) }
-    ensures increasing { IfOk result (λ leaves. IsIncreasing leaves) }
-{
-    let mut leaves = Items::new(alloc);
-    for k in 0..4 {
-        leaves.push(LeafNo(k))?;
-    }
-    Ok(leaves)
-}
-
 fn rows(alloc: Global, case: &Case) -> Result<Rows, NoMemory>
     ensures rows { IfOk result (λ rows. AreRows rows) }
     ensures bodies { IfOk result (λ rows. length rows.layout.outer ≡ 1) }
 {
-    let layout = Layout::new(alloc).with_row(first_leaves(alloc)?)?;
+    let layout = Layout::new(alloc).with_row(first_leaves(alloc, 4)?)?;
     let mut rows = Rows::new(alloc, &layout)?;
     rows.join(
         BodyNo(0),

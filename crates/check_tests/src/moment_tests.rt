@@ -1,18 +1,14 @@
 // A package with a variable of two leaves and one of one, and the clock.
 ghost use Rattle.std.specs.Prelude.{◌≡◌, IfOk, length};
+ghost use Rattle.core_form.specs.Fine.{IsWellFormed};
 
+use crate::samples::{leaf_set, line};
 use core_form::{Home, Leaf, Package, Part, Program, Sharing, States, Var, well_formed};
 use flow_bits::Row;
-use spark_base::{Bytes, FileNo, Items, LeafNo, NoMemory, PackageNo, Pos, Span, VarNo};
+use spark_base::{Bytes, Items, LeafNo, NoMemory, PackageNo, VarNo};
 use std::alloc::Global;
 use std::test::Fail;
 use unset_moments::{Ending, moments};
-
-const NOWHERE: Span = Span {
-    file: FileNo(0),
-    from: Pos { line: 1, col: 1 },
-    to: Pos { line: 1, col: 1 },
-};
 
 /// Home, sharing, first leaf, count of leaves.
 const VARS: [(Home, Sharing, u32, u32); 3] = [
@@ -29,7 +25,7 @@ fn vars(alloc: Global) -> Result<Items<Var>, NoMemory> {
     for (home, sharing, from, count) in &VARS {
         vars.push(Var {
             name: Bytes::new(alloc),
-            place: NOWHERE,
+            place: line(1),
             home: *home,
             part: Part::Visible,
             state: None,
@@ -57,7 +53,7 @@ fn leaves(alloc: Global) -> Result<Items<Leaf>, NoMemory> {
 fn package(alloc: Global) -> Package {
     Package {
         name: Bytes::new(alloc),
-        place: NOWHERE,
+        place: line(1),
         has_states: false,
         initial: None,
         initial_place: None,
@@ -84,18 +80,6 @@ fn program(alloc: Global) -> Result<Program, NoMemory> {
         constituents: Items::new(alloc),
         assignments: Items::new(alloc),
     })
-}
-
-fn set(alloc: Global, bits: u64) -> Result<Row, NoMemory>
-    ensures { IfOk result (λ row. length row ≡ 4) }
-{
-    let mut row = Row::new(alloc, 4)?;
-    for leaf in 0..4 {
-        if bits >> leaf & 1 == 1 {
-            row.add(leaf);
-        }
-    }
-    Ok(row)
 }
 
 /// What two items declare, may leave unassigned and may keep, and what may be unassigned before them, between them and behind them, the first
@@ -130,17 +114,31 @@ const CASES: [Case; 5] = [
     ),
 ];
 
-fn ending(alloc: Global, bits: [u64; 3]) -> Result<Ending, NoMemory>
-    ensures declared { IfOk result (λ e. length e.declared ≡ 4) }
-    ensures unset { IfOk result (λ e. length e.unset ≡ 4) }
-    ensures kept { IfOk result (λ e. length e.kept ≡ 4) }
+fn ending(alloc: Global, program: &Program, bits: &[u64; 3]) -> Result<Ending, NoMemory>
+    ensures declared { IfOk result (λ e. length e.declared ≡ length program.now.leaves) }
+    ensures unset { IfOk result (λ e. length e.unset ≡ length program.now.leaves) }
+    ensures kept { IfOk result (λ e. length e.kept ≡ length program.now.leaves) }
 {
-    let [declared, unset, kept] = bits;
     Ok(Ending {
-        declared: set(alloc, declared)?,
-        unset: set(alloc, unset)?,
-        kept: set(alloc, kept)?,
+        declared: leaf_set(alloc, program, bits[0])?,
+        unset: leaf_set(alloc, program, bits[1])?,
+        kept: leaf_set(alloc, program, bits[2])?,
     })
+}
+
+// The words of what may be unassigned at each moment.
+fn told(alloc: Global, program: &Program, case: &Case) -> Result<Vec<Row>, NoMemory>
+    requires { IsWellFormed program.now }
+{
+    let mut items = Vec::new(alloc);
+    items.push(ending(alloc, program, &case.0)?)?;
+    items.push(ending(alloc, program, &case.1)?)?;
+    moments(alloc, program, items.as_slice())
+}
+
+fn has(rows: &[Row], n: usize, leaf: u32) -> bool {
+    rows.get(n)
+        .is_some_and(|row| leaf < row.size() && row.has(leaf))
 }
 
 #[test]
@@ -148,14 +146,12 @@ fn moments_of_two_items(rt: HostRuntime) -> Result<(), Fail> {
     let alloc = rt.alloc();
     let program = program(alloc)?;
     assert!(rt; well_formed(&program));
-    assert!(rt; program.leaves.len() == 4);
-    for (first, second, wanted) in &CASES {
-        let items = vec![in alloc; ending(alloc, *first)?, ending(alloc, *second)?]?;
-        let rows = moments(alloc, &program, items.as_slice())?;
+    for case in &CASES {
+        let rows = told(alloc, &program, case)?;
         for n in 0..3 {
             for leaf in 0..4 {
-                let found = rows[n].has(leaf);
-                assert_eq!(rt; found, wanted[n] >> leaf & 1 == 1);
+                let found = has(rows.as_slice(), n, leaf);
+                assert_eq!(rt; found, case.2[n] >> leaf & 1 == 1);
             }
         }
     }

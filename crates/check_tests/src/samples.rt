@@ -6,6 +6,7 @@ use core_form::{
     Body, CoreStmt, Home, Item, Leaf, Object, Package, Part, Program, Sharing, StateDef, States,
     Var,
 };
+use flow_bits::Row;
 use spark_base::{
     BodyNo, Bytes, FileNo, Items, LeafNo, NoMemory, ObjectNo, PackageNo, Pos, Span, VarNo,
 };
@@ -143,12 +144,13 @@ pub(crate) fn bare(alloc: Global) -> Result<Program, NoMemory> {
 /// lowest bit: two of X, Y, the clock and C. It does not speak of D.
 pub(crate) type Told = (bool, u64, u64, u64);
 
-fn first_leaves(alloc: Global) -> Result<Items<LeafNo>, NoMemory>
-    ensures size { IfOk result (λ leaves. length leaves ≡ 5) }
+/// So many leaves, from the first on.
+pub(crate) fn first_leaves(alloc: Global, count: u32) -> Result<Items<LeafNo>, NoMemory>
+    ensures size { IfOk result (λ leaves. length leaves ≡ count) }
     ensures increasing { IfOk result (λ leaves. IsIncreasing leaves) }
 {
     let mut leaves = Items::new(alloc);
-    for k in 0..5 {
+    for k in 0..count {
         leaves.push(LeafNo(k))?;
     }
     Ok(leaves)
@@ -160,8 +162,22 @@ pub(crate) fn rows(alloc: Global, told: Told) -> Result<Rows, NoMemory>
     ensures bodies { IfOk result (λ rows. length rows.layout.outer ≡ 1) }
 {
     let (may_return, reads, writes, keeps) = told;
-    let layout = Layout::new(alloc).with_row(first_leaves(alloc)?)?;
+    let layout = Layout::new(alloc).with_row(first_leaves(alloc, 5)?)?;
     let mut rows = Rows::new(alloc, &layout)?;
     rows.join(BodyNo(0), &[may_return as u64, reads, writes, keeps, 0]);
     Ok(rows)
+}
+
+/// A set of leaves of the program: those whose bit is set, the first leaf being the lowest.
+pub(crate) fn leaf_set(alloc: Global, program: &Program, bits: u64) -> Result<Row, NoMemory>
+    ensures { IfOk result (λ row. length row ≡ length program.now.leaves) }
+{
+    let count = u32::try_from(program.leaves.len()).map_err(|_| NoMemory)?;
+    let mut row = Row::new(alloc, count)?;
+    for leaf in 0..count {
+        if bits.checked_shr(leaf).unwrap_or(0) & 1 == 1 {
+            row.add(leaf);
+        }
+    }
+    Ok(row)
 }

@@ -1,9 +1,0 @@
-use Rattle.std.proofs.Common.{◌≡◌, ℕ, length}
-use Rattle.summary_rows.specs.Layout.{IsAt}
-use Rattle.check_tests.proofs.depends_tests.first_leaves.Given as goal
-
-abbrev pub invariant-loop-k : goal.invariant-loop-k
-invariant-loop-k l = record {
-  size : length l.leaves ≡ l.k;
-  all : (v i : ℕ) → IsAt l.leaves v i → v ≡ i;
-}
