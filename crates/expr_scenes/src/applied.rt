@@ -1,5 +1,5 @@
 //! What stands behind a prefix is, by what the prefix and the other parts are.
-ghost use Rattle.std.specs.Prelude.{◌≡◌, ◌++◌, ◌∷◌, length, map, IfOk, OnOk};
+ghost use Rattle.std.specs.Prelude.{◌≡◌, ◌++◌, ◌∷◌, IfOk, OnOk};
 ghost use Rattle.ada_forms.specs.AttributeWords as words;
 ghost use Rattle.ada_forms.specs.Forms as forms;
 ghost use Rattle.ada_forms.specs.declared.attributes.Property.TheVariants.{First};

@@ -1,5 +1,5 @@
 //! What aggregates, choices and conditional expressions are, by what their parts are.
-ghost use Rattle.std.specs.Prelude.{◌≡◌, ◌+◌, ◌++◌, ◌∷◌, length, map, IfOk, OnOk, Some};
+ghost use Rattle.std.specs.Prelude.{◌≡◌, ◌+◌, ◌++◌, ◌∷◌, map, IfOk, OnOk, Some};
 ghost use Rattle.ada_forms.specs.Forms as forms;
 ghost use Rattle.choice_covers.specs.Covers as covers;
 ghost use Rattle.expr_outlines.specs.Outlines.{begins as beginning, count_of, trees};
