@@ -97,8 +97,8 @@ fn frames_are_bounded(rt: HostRuntime) -> Result<(), Fail> {
     Ok(())
 }
 
-// Leaves of the last row, bodies without calls, and the line of the refusal: 31 rows of 262,337 words, one of 256,103 and 58 of one word are
-// 8,388,608 words.
+// Leaves of the last row, bodies without calls, and the line of the refusal: 31 rows of 262,337 words, one of 256,103 and 58 of one word
+// are 8,388,608 words.
 const LARGE: [(u32, u32, Option<u32>); 3] = [
     (4047, 56, None),
     (4047, 57, Some(91)),

@@ -38,7 +38,7 @@ fn circle(alloc: Global) -> Result<Program, NoMemory> {
     program(alloc, SHAPE, bodies, stmts)
 }
 
-// Whether a row has the library variable as read, written and kept, and the formal as read, not written, and as what the variable depends on.
+// Whether a row has the library variable as read, written and kept; the formal as read, as written, and as what the variable depends on.
 fn facts(rows: &Rows, b: u32) -> [bool; 6]
     requires rows { AreRows rows.now }
     requires in_range { b < length rows.now.layout.outer }
