@@ -1,0 +1,5 @@
+pub mod Calling
+pub mod Found
+pub mod Equation
+pub mod Guarded
+pub mod Joined
